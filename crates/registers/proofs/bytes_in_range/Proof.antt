@@ -1,0 +1,17 @@
+-- `registers::bytes_in_range` meets its promise: the tests are the definition's. Assumes nothing.
+use borrow.Author.Needs.{needs}
+use Rattle.words.specs.Words.{_and_}
+use Rattle.registers.specs.Registers.{bytesInRange}
+use Rattle.registers.proofs.bytes_in_range.Statement.{statement}
+use Rattle.registers.proofs.bytes_in_range.Tie as tie
+
+pub bytes-in-range-spec : {M : Type 1} → statement M
+unfolding bytesInRange _and_
+bytes-in-range-spec =
+    tie.close
+    (tie.spec
+    (λ c κs. search needs)
+    (λ c κs. search needs)
+    (λ c κs. search needs)
+    (λ c κs. search needs)
+    (λ c. rw (c .before .before .before .before .escapes .ensures, c .before .before .before .before .before .byte-at2 .ensures, c .before .before .before .before .before .before .moves-asked .ensures, c .before .before .before .before .before .before .before .byte-at .ensures)))

@@ -1,0 +1,20 @@
+-- `registers::motion_in_range` meets its promise: each arm is a clause of the definition. Assumes nothing.
+use borrow.Author.Needs.{needs}
+use Rattle.words.specs.Words.{_and_}
+use Rattle.registers.specs.Registers.{motionInRange}
+use Rattle.registers.proofs.motion_in_range.Statement.{statement}
+use Rattle.registers.proofs.motion_in_range.Tie as tie
+
+pub motion-in-range-spec : {M : Type 1} → statement M
+unfolding motionInRange _and_
+motion-in-range-spec =
+    tie.close
+    (tie.spec
+    (λ c. search needs)
+    (λ c. search needs)
+    (λ c κs. search needs)
+    (λ c. search needs)
+    (λ c κs. search needs)
+    (λ c. rw (c .enum-told .given .1))
+    (λ c. rw (c .before .before .m .given .1, c .line-in-range .ensures))
+    (λ c. rw (c .before .before .m2 .given .1, c .bytes-in-range .ensures)))

@@ -80,9 +80,9 @@ good r h =
       motion = good-motion (r .motion) (r .base .datastate) (r .base .mode) (and-right _ _ h);
     }
 
-formed-base : {b : Base} → GoodBase b → numbersInRange b ≡ true
+formed-base : (b : Base) → GoodBase b → numbersInRange b ≡ true
 unfolding numbersInRange _and_
-formed-base g =
+formed-base b g =
     rw (
       lt-ltb _ _ (g .address),
       lt-ltb _ _ (g .pointer),
@@ -118,7 +118,7 @@ formed-motion (Bytes t) datastate mode g = rw (g .0, eq-eqb _ _ (g .1), formed-b
 
 pub formed : (r : Registers) → Good r → inRange r ≡ true
 unfolding inRange _and_
-formed r g = rw (formed-base (g .base), formed-motion (r .motion) (r .base .datastate) (r .base .mode) (g .motion))
+formed r g = rw (formed-base (r .base) (g .base), formed-motion (r .motion) (r .base .datastate) (r .base .mode) (g .motion))
 
 -- the fresh registers are in range
 pub fresh-formed : inRange fresh ≡ true

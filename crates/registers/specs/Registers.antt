@@ -70,16 +70,21 @@ inRange r = numbersInRange (r .base) and motionInRange (r .motion) (r .base .dat
 
 -- THE SAME AS FACTS, which proofs take apart and put together again
 
-pub record GoodBase (b : Base) : Type 0 where
-  pub address : b .address .0 < 32768
-  pub pointer : b .pointer .0 < 4096
-  pub x : b .x < 8192
-  pub y : b .y < 8192
-  pub mode : b .mode < 8
-  pub scale : b .scale < 4
-  pub intensity : b .intensity < 8
-  pub buttons : b .buttons < 4096
-  pub conditions : b .conditions < 4096
+-- over the numbers themselves, so that what changes none of them keeps the fact as it is
+pub record GoodNumbers (a p u v m s i k c : ℕ) : Type 0 where
+  pub address : a < 32768
+  pub pointer : p < 4096
+  pub x : u < 8192
+  pub y : v < 8192
+  pub mode : m < 8
+  pub scale : s < 4
+  pub intensity : i < 8
+  pub buttons : k < 4096
+  pub conditions : c < 4096
+
+abbrev pub GoodBase : Base → Type 0
+GoodBase b =
+    GoodNumbers (b .address .0) (b .pointer .0) (b .x) (b .y) (b .mode) (b .scale) (b .intensity) (b .buttons) (b .conditions)
 
 pub record GoodLine (l : LineMotion) : Type 0 where
   pub magx : l .magx < 1024

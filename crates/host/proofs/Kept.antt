@@ -1,0 +1,95 @@
+-- No operation leaves registers that refusal 4 refuses. What changes no number keeps the facts as they are; the operations that set one show its range.
+-- Assumes nothing.
+use Prim.Native.Nat.{ℕ, _≤_, _<_}
+use mathlib.Core.Path.{_≡_}
+use mathlib.Core.Bool.{true}
+use native.Mathlib.Nat.{lt-of-le-of-lt}
+use native.Mathlib.Omega.{arith}
+use lib.Bits.{xor-lt}
+use lib.Dec.{eqb, leb}
+use lib.Pow.{pow-mono}
+use borrow.Author.Tests.{leb-true, eqb-true}
+use Rattle.words.specs.Words.{pick}
+use Rattle.words.proofs.Laws.{pick-case}
+use Rattle.addresses.specs.Addresses.{address, pointer, addressIn}
+use Rattle.registers.specs.declared.Base.{Base}
+use Rattle.registers.specs.declared.Motion.the-variants.{Nothing}
+use Rattle.registers.specs.declared.Registers.{Registers}
+use Rattle.registers.specs.Registers.{inRange, Good}
+use Rattle.registers.proofs.InRange.{good, formed}
+use Rattle.registers.proofs.Setting.{address-set, pointer-set, mode-set, buttons-set, conditions-set}
+use Rattle.operations.specs.HostOperations.{started, pointed, conditioned, resume, cleared, pressed, groupCleared}
+use Rattle.host.specs.declared.Operated.{Operated}
+use Rattle.host.specs.HostOperations.{known, limit, withMotion, registersAfter, done, operated, KeepsInRange}
+
+-- an operand within the limit of an operation is within that of its number
+within : (operation operand k : ℕ) → eqb operation k ≡ true → operand ≤ limit operation → operand ≤ limit k
+within operation operand k e h = rw (eqb-true operation k e) at h
+
+module _ (r : Registers) (g : Good r) where
+  started-good : (operand : ℕ) → operand ≤ limit 1 → Good (withMotion (started (r .base) (address operand)) Nothing)
+  unfolding limit pick
+  started-good operand h = record { base = mode-set (address-set (g .base) (omega arith)) (omega arith); motion = tt }
+
+  pointed-good : (operand : ℕ) → operand ≤ limit 2 → Good (withMotion (pointed (r .base) (pointer operand)) (r .motion))
+  unfolding limit pick
+  pointed-good operand h = record { base = pointer-set (g .base) (omega arith); motion = g .motion }
+
+  conditioned-good : (operand : ℕ) → operand ≤ limit 3 → Good (withMotion (conditioned (r .base) operand) (r .motion))
+  unfolding limit pick
+  conditioned-good operand h = record { base = conditions-set (g .base) (omega arith); motion = g .motion }
+
+  resume-good : Good (withMotion (resume (r .base)) (r .motion))
+  unfolding resume
+  resume-good =
+      pick-case (λ (b : Base). Good (withMotion b (r .motion))) (r .base .running)
+      (λ _. record { base = g .base; motion = g .motion })
+      (λ _. record { base = g .base; motion = g .motion })
+
+  cleared-good : Good (withMotion (cleared (r .base)) Nothing)
+  unfolding cleared addressIn
+  cleared-good = record { base = mode-set (address-set (g .base) (omega arith)) (omega arith); motion = tt }
+
+  pressed-good : (operand : ℕ) → Good (withMotion (pressed (r .base) operand) (r .motion))
+  unfolding pressed
+  pressed-good operand =
+      record {
+        base = buttons-set (g .base) (xor-lt 12 _ _ (g .base .buttons) (lt-of-le-of-lt (pow-mono {j = 11} (omega arith)) (omega arith)));
+        motion = g .motion;
+      }
+
+  group-good : (operand : ℕ) → Good (withMotion (groupCleared (r .base) operand) (r .motion))
+  unfolding groupCleared
+  group-good operand =
+      record {
+        base =
+            buttons-set (g .base)
+            (pick-case (λ (n : ℕ). n < 4096) (eqb operand 0) (λ _. omega arith) (λ _. omega (arith, g .base .buttons)));
+        motion = g .motion;
+      }
+
+  after-good : (operation operand : ℕ) → operand ≤ limit operation → Good (registersAfter r operation operand)
+  unfolding registersAfter
+  after-good o w h =
+      pick-case Good (eqb o 1) (λ e. started-good w (within o w 1 e h))
+      (λ _. pick-case Good (eqb o 2) (λ e. pointed-good w (within o w 2 e h))
+      (λ _. pick-case Good (eqb o 3) (λ e. conditioned-good w (within o w 3 e h))
+      (λ _. pick-case Good (eqb o 4) (λ _. resume-good)
+      (λ _. pick-case Good (eqb o 5) (λ _. cleared-good)
+      (λ _. pick-case Good (eqb o 6) (λ _. record { base = g .base; motion = g .motion })
+      (λ _. pick-case Good (eqb o 7) (λ _. record { base = g .base; motion = g .motion })
+      (λ _. pick-case Good (eqb o 8) (λ _. pressed-good w)
+      (λ _. pick-case Good (eqb o 9) (λ _. group-good w)
+      (λ _. pick-case Good (eqb o 10) (λ _. record { base = g .base; motion = g .motion })
+      (λ _. pick-case Good (eqb o 11) (λ _. record { base = g .base; motion = g .motion })
+      (λ _. pick-case Good (eqb o 12) (λ _. record { base = g .base; motion = g .motion })
+      (λ _. pick-case Good (eqb o 24) (λ _. record { base = g .base; motion = g .motion }) (λ _. g)))))))))))))
+
+pub keeps : KeepsInRange
+unfolding operated done
+keeps r o w h =
+    let g = good r h in
+    pick-case (λ (q : Operated). inRange (q .registers) ≡ true) (inRange r)
+    (λ _. pick-case (λ (q : Operated). inRange (q .registers) ≡ true) (known o)
+    (λ _. pick-case (λ (q : Operated). inRange (q .registers) ≡ true) (leb w (limit o))
+    (λ e. formed (registersAfter r o w) (after-good r g o w (leb-true _ _ e))) (λ _. h)) (λ _. h)) (λ _. h)

@@ -1,0 +1,98 @@
+-- Section 'Host operations' of 01, the whole call: which operations and operands there are, what is answered, and refusals 4, 5, 6 in that order.
+-- What each operation sets is in operations' file of this name. Assumes nothing.
+use Prim.Native.Nat.{ℕ, _%_}
+use mathlib.Core.Bool.{Bool, true, false, _&&_, _||_}
+use mathlib.Core.Path.{_≡_}
+use lib.Dec.{eqb, leb}
+use Rattle.words.specs.Words.{pick}
+use Rattle.addresses.specs.Addresses.{address, pointer, lowBits}
+use Rattle.registers.specs.declared.Base.{Base}
+use Rattle.registers.specs.declared.Motion.{Motion}
+use Rattle.registers.specs.declared.Motion.the-variants.{Nothing}
+use Rattle.registers.specs.declared.Registers.{Registers}
+use Rattle.registers.specs.Registers.{inRange}
+use Rattle.status.specs.Status.{statusOne, statusTwo}
+use Rattle.operations.specs.HostOperations.{started, pointed, conditioned, resume, cleared, requested, penLit, pressed, groupCleared, interrupted, idled, hitsRead}
+use Rattle.host.specs.declared.Operated.{Operated}
+use Rattle.host.specs.declared.Reply.{Reply}
+use Rattle.host.specs.declared.Reply.the-variants.{Refused, Done}
+
+-- the operations are 1 to 12 and the reads 20 to 26
+unfoldable pub known : ℕ → Bool
+known operation = leb 1 operation && leb operation 12 || leb 20 operation && leb operation 26
+
+-- start takes 0 to 32,767, pointer and conditions 0 to 4,095, press 0 to 11, clear group 0 or 1; operand 0 where none is named
+unfoldable pub limit : ℕ → ℕ
+limit operation =
+    pick (eqb operation 1) 32767
+    (pick (eqb operation 2) 4095 (pick (eqb operation 3) 4095 (pick (eqb operation 8) 11 (pick (eqb operation 9) 1 0))))
+
+-- the registers of a base and a motion
+abbrev pub withMotion : Base → Motion → Registers
+withMotion b m = record { base = b; motion = m }
+
+-- the registers after an operation; start and clear clear the motion; of the reads only 24 changes any
+unfoldable pub registersAfter : Registers → ℕ → ℕ → Registers
+registersAfter r operation operand =
+    let b = r .base in
+    let m = r .motion in
+    pick (eqb operation 1) (withMotion (started b (address operand)) Nothing)
+    (pick (eqb operation 2) (withMotion (pointed b (pointer operand)) m)
+    (pick (eqb operation 3) (withMotion (conditioned b operand) m)
+    (pick (eqb operation 4) (withMotion (resume b) m)
+    (pick (eqb operation 5) (withMotion (cleared b) Nothing)
+    (pick (eqb operation 6) (withMotion (requested b) m)
+    (pick (eqb operation 7) (withMotion (penLit b) m)
+    (pick (eqb operation 8) (withMotion (pressed b operand) m)
+    (pick (eqb operation 9) (withMotion (groupCleared b operand) m)
+    (pick (eqb operation 10) (withMotion (interrupted b true) m)
+    (pick (eqb operation 11) (withMotion (interrupted b false) m)
+    (pick (eqb operation 12) (withMotion (idled b) m)
+    (pick (eqb operation 24) (withMotion (hitsRead b) m) r))))))))))))
+
+-- 20 pointer, 21 x and 22 y (low 12), 23 address (low 12), 24 status 1, 25 status 2, 26 buttons; the word is 0 unless it is a read
+unfoldable pub reading : Registers → ℕ → ℕ
+reading r operation =
+    pick (eqb operation 20) (r .base .pointer .0)
+    (pick (eqb operation 21) (r .base .x % 4096)
+    (pick (eqb operation 22) (r .base .y % 4096)
+    (pick (eqb operation 23) (lowBits (r .base .address))
+    (pick (eqb operation 24) (statusOne (r .base))
+    (pick (eqb operation 25) (statusTwo (r .base) (r .motion)) (pick (eqb operation 26) (r .base .buttons) 0))))))
+
+-- a refusal returns the registers as given
+abbrev pub refused : Registers → ℕ → Operated
+refused r number = record { registers = r; reply = Refused number }
+
+-- the word is what is read before anything is cleared
+unfoldable pub done : Registers → ℕ → ℕ → Operated
+done r operation operand =
+    record {
+      registers = registersAfter r operation operand;
+      reply = Done (reading r operation);
+    }
+
+-- operations test 4, 5, 6; the first that applies is given, and none otherwise (01, Refused calls)
+unfoldable pub operated : Registers → ℕ → ℕ → Operated
+operated r operation operand =
+    pick (inRange r)
+    (pick (known operation)
+    (pick (leb operand (limit operation)) (done r operation operand) (refused r 6))
+    (refused r 5))
+    (refused r 4)
+
+-- this paper's numbers for each answer: ending, word, beats and points (01, Refused calls: a refusal has word 0, beats 0, points 0; an accepted operation
+-- answers ending 0, beats 0, points 0)
+pub record Numbers : Type 0 where
+  pub ending : ℕ
+  pub word : ℕ
+  pub beats : ℕ
+  pub points : ℕ
+
+abbrev pub numbers : Reply → Numbers
+numbers (Refused number) = record { ending = number; word = 0; beats = 0; points = 0 }
+numbers (Done word) = record { ending = 0; word = word; beats = 0; points = 0 }
+
+-- no accepted call leaves registers that 4 refuses (01, Registers): whatever operation and operand arrive, registers in range stay in range
+abbrev pub KeepsInRange : Type 0
+KeepsInRange = (r : Registers) (operation operand : ℕ) → inRange r ≡ true → inRange (operated r operation operand .registers) ≡ true

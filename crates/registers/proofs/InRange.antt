@@ -1,9 +1,11 @@
 -- The test of refusal 4 and its facts are the same: `good` takes the test apart, `formed` puts it together. Assumes nothing.
-use Prim.Native.Nat.{ℕ}
+use Prim.Native.Nat.{ℕ, _≤_}
 use mathlib.Core.Path.{_≡_, refl}
-use mathlib.Core.Bool.{Bool, true}
-use borrow.Author.Tests.{ltb-true, lt-ltb, leb-true, le-leb, eqb-true, eq-eqb, not-true}
-use Rattle.words.specs.Words.{_and_}
+use mathlib.Core.Bool.{Bool, true, false}
+use native.Mathlib.Omega.{arith}
+use lib.Dec.{ltb}
+use borrow.Author.Tests.{ltb-true, ltb-false, lt-ltb, leb-true, le-leb, eqb-true, eq-eqb, not-true}
+use Rattle.words.specs.Words.{pick, _and_}
 use Rattle.words.proofs.Laws.{and-left, and-right}
 use Rattle.registers.specs.declared.Base.{Base}
 use Rattle.registers.specs.declared.LineMotion.{LineMotion}
@@ -11,7 +13,7 @@ use Rattle.registers.specs.declared.ByteMotion.{ByteMotion}
 use Rattle.registers.specs.declared.Motion.{Motion}
 use Rattle.registers.specs.declared.Motion.the-variants.{Nothing, Line, Bytes}
 use Rattle.registers.specs.declared.Registers.{Registers}
-use Rattle.registers.specs.Registers.{numbersInRange, lineInRange, bytesInRange, motionInRange, inRange, GoodBase, GoodLine, GoodBytes, GoodMotion, Good, fresh}
+use Rattle.registers.specs.Registers.{larger, numbersInRange, lineInRange, bytesInRange, motionInRange, inRange, GoodBase, GoodLine, GoodBytes, GoodMotion, Good, fresh}
 
 good-base : (b : Base) → numbersInRange b ≡ true → GoodBase b
 unfolding numbersInRange
@@ -124,3 +126,13 @@ formed r g = rw (formed-base (r .base) (g .base), formed-motion (r .motion) (r .
 pub fresh-formed : inRange fresh ≡ true
 unfolding inRange numbersInRange motionInRange _and_
 fresh-formed = refl
+
+-- the bounds that a line's move needs
+pub line-bounds : {l : LineMotion} → GoodLine l → (l .magx ≤ l .moves) × (l .magy ≤ l .moves) × (l .moves ≤ 1023)
+unfolding larger pick
+line-bounds {l} g = rw (g .larger) (by (ltb (l .magx) (l .magy)) refl)
+  where
+    by : (t : Bool) → ltb (l .magx) (l .magy) ≡ t →
+        (l .magx ≤ pick t (l .magy) (l .magx)) × (l .magy ≤ pick t (l .magy) (l .magx)) × (pick t (l .magy) (l .magx) ≤ 1023)
+    by true e = (omega (arith, ltb-true (l .magx) (l .magy) e), omega arith, omega (arith, g .magy))
+    by false e = (omega arith, omega (arith, ltb-false (l .magx) (l .magy) e), omega (arith, g .magx))

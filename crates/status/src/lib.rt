@@ -5,7 +5,7 @@ use registers::Base;
 use registers::Motion;
 
 // The weight of a flag in a word, or 0 where the flag is off. That it is no more than the weight keeps the sums below small.
-fn flag_at(on: bool, weight: u16) -> u16
+pub fn flag_at(on: bool, weight: u16) -> u16
     ensures { λ r. ⌜ FlagAt on weight r ⌝ }
 {
     if on { weight } else { 0 }

@@ -1,0 +1,93 @@
+-- Section 'Data words' of 01: what the command beat of each mode does with its words, in 01's order. Move beats are in moves' file of this name. Assumes
+-- nothing.
+use Prim.Native.Nat.{ℕ, _+_, _*_, _/_}
+use mathlib.Core.Bool.{Bool, true, false, not, _&&_}
+use lib.Dec.{eqb}
+use Rattle.words.specs.Words.{bit, bits, pick}
+use Rattle.addresses.specs.declared.DisplayAddress.{DisplayAddress}
+use Rattle.addresses.specs.Addresses.{addressAfter}
+use Rattle.paper.specs.declared.Reached.{Reached}
+use Rattle.paper.specs.DataWords.{distance, dimension, moved}
+use Rattle.registers.specs.declared.Base.{Base}
+use Rattle.registers.specs.declared.LineMotion.{LineMotion}
+use Rattle.registers.specs.declared.Motion.{Motion}
+use Rattle.registers.specs.declared.Motion.the-variants.{Nothing, Line, Bytes}
+use Rattle.registers.specs.Registers.{larger, byteAt, movesAsked}
+use Rattle.registers.specs.With.{withAddress, withDatastate}
+use Rattle.moves.specs.declared.Lit.the-variants.{Dark}
+use Rattle.moves.specs.declared.Stop.the-variants.{On}
+use Rattle.moves.specs.declared.Moved.{Moved}
+use Rattle.moves.specs.DataWords.{arrived}
+
+abbrev pub stateSet : Base → DisplayAddress → Bool → Base
+stateSet b a d = withDatastate (withAddress b a) d
+
+abbrev pub unlit : Base → Motion → Moved
+unlit b m = record { registers = record { base = b; motion = m }; lit = Dark; stop = On }
+
+-- bits 2 to 11 go into the low ten bits, the high three remain; bit 1 inhibits (manual 2.2.1)
+unfoldable pub placed : ℕ → ℕ → Bool → Reached
+placed w old inhibit = record { value = pick inhibit old (old / 1024 * 1024 + bits w 2 11); violated = false }
+
+-- point (two words, y first, one beat): no scale, no violation
+unfoldable pub point : Base → ℕ → ℕ → Moved
+point b w v =
+    arrived (stateSet b (addressAfter (b .address) 2) (b .datastate)) Nothing (placed v (b .x) (bit v 1)) (placed w (b .y) (bit w 1))
+    (bit w 0)
+    (bit v 0)
+
+-- increment: the left byte's moves come first
+unfoldable pub increment : Base → ℕ → Moved
+increment b w =
+    unlit (stateSet b (addressAfter (b .address) 1) (b .datastate))
+    (Bytes (record { word = w; moves = movesAsked (byteAt w false); right = false }))
+
+-- vector: signs and magnitudes (manual 2.2.3)
+unfoldable pub vectorLine : ℕ → ℕ → LineMotion
+vectorLine w v =
+    record {
+      magx = bits v 2 11;
+      magy = bits w 2 11;
+      minusx = bit v 1;
+      minusy = bit w 1;
+      lit = bit w 0;
+      escape = bit v 0;
+      moves = larger (bits v 2 11) (bits w 2 11);
+      done = 0;
+    }
+
+-- short vector: the same in one word (manual 2.2.5)
+unfoldable pub shortLine : ℕ → LineMotion
+shortLine w =
+    record {
+      magx = bits w 8 11;
+      magy = bits w 2 5;
+      minusx = bit w 7;
+      minusy = bit w 1;
+      lit = bit w 0;
+      escape = bit w 6;
+      moves = larger (bits w 8 11) (bits w 2 5);
+      done = 0;
+    }
+
+-- if both magnitudes are 0, the command beat ends it with no point (H); its escape takes effect with it
+unfoldable pub begun : Base → DisplayAddress → LineMotion → Moved
+begun b a l =
+    pick (eqb (l .moves) 0) (unlit (stateSet b a (b .datastate && not (l .escape))) Nothing)
+    (unlit (stateSet b a (b .datastate)) (Line l))
+
+unfoldable pub vector : Base → ℕ → ℕ → Moved
+vector b w v = begun b (addressAfter (b .address) 2) (vectorLine w v)
+
+unfoldable pub shortVector : Base → ℕ → Moved
+shortVector b w = begun b (addressAfter (b .address) 1) (shortLine w)
+
+-- graphplot (one beat): one axis moves +s, the other's low 10 bits are set, after a violation too; the word always asks for its point; bit 1 is 0 where x
+-- moves (manual 2.2.7)
+unfoldable pub graphplot : Base → ℕ → Moved
+graphplot b w =
+    let next = stateSet b (addressAfter (b .address) 1) (b .datastate) in
+    let s = distance (b .scale) in
+    pick (bit w 1)
+    (arrived next Nothing (placed w (b .x) false) (moved (dimension (bits (b .conditions) 4 5)) (b .y) s false) true (bit w 0))
+    (arrived next Nothing (moved (dimension (bits (b .conditions) 6 7)) (b .x) s false) (placed w (b .y) false) true (bit w 0))

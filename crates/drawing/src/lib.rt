@@ -1,0 +1,173 @@
+// The data words: what the command beat of each mode does once its words are fetched.
+ghost use mathlib.Core.Path.{_≡_};
+ghost use Rattle.drawing.specs.DataWords.{stateSet, unlit, placed, point, increment, vectorLine, shortLine, begun, vector, shortVector, graphplot};
+use addresses::DisplayAddress;
+use moves::Lit;
+use moves::Moved;
+use moves::Stop;
+use paper::Reached;
+use registers::Base;
+use registers::ByteMotion;
+use registers::LineMotion;
+use registers::Motion;
+use registers::Registers;
+
+fn state_set(b: Base, address: DisplayAddress, datastate: bool) -> Base
+    ensures { λ r. ⌜ r ≡ stateSet b address datastate ⌝ }
+{
+    Base {
+        address,
+        datastate,
+        ..b
+    }
+}
+
+// A command beat that lights nothing and stops nothing.
+fn unlit(base: Base, motion: Motion) -> Moved
+    ensures { λ r. ⌜ r ≡ unlit base motion ⌝ }
+{
+    let registers = Registers { base, motion };
+    Moved {
+        registers,
+        lit: Lit::Dark,
+        stop: Stop::On,
+    }
+}
+
+// A coordinate with the ten low bits of a word, unless inhibited.
+fn placed(word: u16, old: u16, inhibit: bool) -> Reached
+    ensures { λ r. ⌜ r ≡ placed word old inhibit ⌝ }
+{
+    let value = words::pick_u16(inhibit, old, old / 1024 * 1024 + words::bits(word, 2, 11));
+    Reached {
+        value,
+        violated: false,
+    }
+}
+
+// Mode 0: y in the first word, x in the second.
+pub fn point(b: Base, word: u16, second: u16) -> Moved
+    ensures { λ r. ⌜ r ≡ point b word second ⌝ }
+{
+    let y = placed(word, b.y, words::bit(word, 1));
+    let x = placed(second, b.x, words::bit(second, 1));
+    let next = state_set(b, b.address.after(2), b.datastate);
+    moves::arrived(
+        next,
+        Motion::Nothing,
+        x,
+        y,
+        words::bit(word, 0),
+        words::bit(second, 0),
+    )
+}
+
+// Mode 1: the left byte first.
+pub fn increment(b: Base, word: u16) -> Moved
+    ensures { λ r. ⌜ r ≡ increment b word ⌝ }
+{
+    let moves = registers::moves_asked(registers::byte_at(word, false));
+    let next = state_set(b, b.address.after(1), b.datastate);
+    let bytes = ByteMotion {
+        word,
+        moves,
+        right: false,
+    };
+    unlit(next, Motion::Bytes(bytes))
+}
+
+// The line of a vector's two words.
+fn vector_line(word: u16, second: u16) -> LineMotion
+    ensures { λ r. ⌜ r ≡ vectorLine word second ⌝ }
+{
+    let magx = words::bits(second, 2, 11);
+    let magy = words::bits(word, 2, 11);
+    let moves = registers::larger(magx, magy);
+    LineMotion {
+        magx,
+        magy,
+        minusx: words::bit(second, 1),
+        minusy: words::bit(word, 1),
+        lit: words::bit(word, 0),
+        escape: words::bit(second, 0),
+        moves,
+        done: 0,
+    }
+}
+
+// The line of a short vector's word.
+fn short_line(word: u16) -> LineMotion
+    ensures { λ r. ⌜ r ≡ shortLine word ⌝ }
+{
+    let magx = words::bits(word, 8, 11);
+    let magy = words::bits(word, 2, 5);
+    let moves = registers::larger(magx, magy);
+    LineMotion {
+        magx,
+        magy,
+        minusx: words::bit(word, 7),
+        minusy: words::bit(word, 1),
+        lit: words::bit(word, 0),
+        escape: words::bit(word, 6),
+        moves,
+        done: 0,
+    }
+}
+
+// A line begins; one with both magnitudes 0 ends at once.
+fn begun(b: Base, address: DisplayAddress, line: LineMotion) -> Moved
+    ensures { λ r. ⌜ r ≡ begun b address line ⌝ }
+{
+    if line.moves == 0 {
+        unlit(
+            state_set(b, address, b.datastate & !line.escape),
+            Motion::Nothing,
+        )
+    } else {
+        unlit(state_set(b, address, b.datastate), Motion::Line(line))
+    }
+}
+
+// Modes 2 and 3: y in the first word, x in the second.
+pub fn vector(b: Base, word: u16, second: u16) -> Moved
+    ensures { λ r. ⌜ r ≡ vector b word second ⌝ }
+{
+    begun(b, b.address.after(2), vector_line(word, second))
+}
+
+// Mode 4: both in one word.
+pub fn short_vector(b: Base, word: u16) -> Moved
+    ensures { λ r. ⌜ r ≡ shortVector b word ⌝ }
+{
+    begun(b, b.address.after(1), short_line(word))
+}
+
+// Mode 6: one axis moves on, the other is set.
+pub fn graphplot(b: Base, word: u16) -> Moved
+    ensures { λ r. ⌜ r ≡ graphplot b word ⌝ }
+{
+    let distance = paper::distance(b.scale);
+    let next = state_set(b, b.address.after(1), b.datastate);
+    let escape = words::bit(word, 0);
+    if words::bit(word, 1) {
+        let y = paper::moved(words::bits(b.conditions, 4, 5), b.y, distance, false);
+        moves::arrived(
+            next,
+            Motion::Nothing,
+            placed(word, b.x, false),
+            y,
+            true,
+            escape,
+        )
+    } else {
+        let x = paper::moved(words::bits(b.conditions, 6, 7), b.x, distance, false);
+        moves::arrived(
+            next,
+            Motion::Nothing,
+            x,
+            placed(word, b.y, false),
+            true,
+            escape,
+        )
+    }
+}

@@ -1,0 +1,151 @@
+-- Section 'Data words' of 01: move beats, lit points and edges. The paper's rules are in paper's file of this name, the words in drawing's. Assumes nothing.
+use Prim.Native.Nat.{ℕ, _+_, _-_, _*_, _/_, _%_}
+use mathlib.Core.Bool.{Bool, true, false, not, _&&_, _||_}
+use lib.Dec.{eqb, ltb, leb}
+use Rattle.words.specs.Words.{bit, bits, pick}
+use Rattle.paper.specs.declared.Reached.{Reached}
+use Rattle.paper.specs.DataWords.{distance, dimension, moved, advance, sectorZero, point}
+use Rattle.registers.specs.declared.Base.{Base}
+use Rattle.registers.specs.declared.LineMotion.{LineMotion}
+use Rattle.registers.specs.declared.ByteMotion.{ByteMotion}
+use Rattle.registers.specs.declared.Motion.{Motion}
+use Rattle.registers.specs.declared.Motion.the-variants.{Nothing, Line, Bytes}
+use Rattle.registers.specs.Registers.{byteAt, movesAsked, escapes, GoodLine}
+use Rattle.moves.specs.declared.Lit.{Lit}
+use Rattle.moves.specs.declared.Lit.the-variants.{Dark, Point}
+use Rattle.moves.specs.declared.Stop.the-variants.{On, Edge}
+use Rattle.moves.specs.declared.Move.{Move}
+use Rattle.moves.specs.declared.Moved.{Moved}
+use Rattle.moves.specs.declared.Moving.{Moving}
+use Rattle.moves.specs.declared.Moving.the-variants.{Still, Going}
+
+-- what the setter of the code sets, every other register as it was
+abbrev pub beamSet : Base → ℕ → ℕ → Bool → Bool → Bool → Bool → Base
+beamSet b u v d h k r = record { x = u; y = v; conditions = b .conditions; address = b .address; pointer = b .pointer; buttons = b .buttons; scale = b .scale; intensity = b .intensity; mode = b .mode; datastate = d; running = r; horizontal = h; vertical = k; blink = b .blink; pen = b .pen; hold = b .hold; request = b .request; sense = b .sense; idle = b .idle; hit1 = b .hit1; hit2 = b .hit2; internal = b .internal; external = b .external; penflag = b .penflag; manual = b .manual }
+
+-- a point lights if the word or byte asks it or condition bit 8 is set, the beam after the beat is in sector 0, and the beat violated nothing (H)
+unfoldable pub litAt : Base → ℕ → ℕ → Bool → Bool → Lit
+litAt b x y asked violated =
+    pick ((asked || bit (b .conditions) 8) && sectorZero x y && not violated) (Point (point x y (b .intensity) (b .blink))) Dark
+
+-- the beam arrives: unless condition bit 9 is set, a violation sets that axis's flag and stops; the move stands, wrapped; an escape takes effect, an edge
+-- stop included
+unfoldable pub arrived : Base → Motion → Reached → Reached → Bool → Bool → Moved
+arrived b m x y asked escape =
+    let violated = x .violated || y .violated in
+    let edge = violated && not (bit (b .conditions) 9) in
+    record {
+      registers =
+          record {
+            base =
+                beamSet b (x .value) (y .value) (b .datastate && not escape) (b .horizontal || edge && x .violated)
+                (b .vertical || edge && y .violated)
+                (b .running && not edge);
+            motion = m;
+          };
+      lit = litAt b (x .value) (y .value) asked violated;
+      stop = pick edge Edge On;
+    }
+
+-- a line with another number of moves done
+abbrev pub withDone : LineMotion → ℕ → LineMotion
+withDone l k =
+    record {
+      magx = l .magx;
+      magy = l .magy;
+      minusx = l .minusx;
+      minusy = l .minusy;
+      lit = l .lit;
+      escape = l .escape;
+      moves = l .moves;
+      done = k;
+    }
+
+-- a line after one more move: k of n; a vector continue starts over at 0 after n, any other line ends
+unfoldable pub lineNext : LineMotion → Bool → Motion
+lineNext l continues =
+    pick (ltb (l .done + 1) (l .moves)) (Line (withDone l (l .done + 1))) (pick continues (Line (withDone l 0)) Nothing)
+
+-- a line's move: each axis goes what the move adds to its offset, times the distance; the escape takes effect with the last beat, which in a vector
+-- continue is the one that ends it
+unfoldable pub lineMove : LineMotion → ℕ → Bool → Move
+lineMove l s continues =
+    record {
+      motion = lineNext l continues;
+      travelx = advance (l .done) (l .magx) (l .moves) * s;
+      travely = advance (l .done) (l .magy) (l .moves) * s;
+      minusx = l .minusx;
+      minusy = l .minusy;
+      asked = l .lit;
+      escape = l .escape && (leb (l .moves) (l .done + 1) || continues);
+      continues = continues;
+    }
+
+-- bytes after one more move: the moves left, then the right byte; an escape in the left byte drops the right one (H)
+unfoldable pub byteNext : ByteMotion → Bool → Motion
+byteNext t escape =
+    pick (ltb 1 (t .moves)) (Bytes (record { word = t .word; moves = t .moves - 1; right = t .right }))
+    (pick (t .right || escape) Nothing
+    (Bytes (record { word = t .word; moves = movesAsked (byteAt (t .word) true); right = true })))
+
+-- directions 0 to 7 run counterclockwise from right (01, Increment)
+abbrev pub leftward : ℕ → Bool
+leftward d = leb 3 d && leb d 5
+
+abbrev pub rightward : ℕ → Bool
+rightward d = eqb d 0 || eqb d 1 || eqb d 7
+
+abbrev pub upward : ℕ → Bool
+upward d = leb 1 d && leb d 3
+
+abbrev pub downward : ℕ → Bool
+downward d = leb 5 d && leb d 7
+
+-- a byte's move: bit 0 asks for the point, bits 3, 4, 5 are the direction (manual 2.2.2)
+unfoldable pub byteMove : ByteMotion → ℕ → Move
+byteMove t s =
+    let byte = byteAt (t .word) (t .right) in
+    let d = byte % 8 in
+    record {
+      motion = byteNext t (escapes byte);
+      travelx = pick (leftward d || rightward d) s 0;
+      travely = pick (upward d || downward d) s 0;
+      minusx = leftward d;
+      minusy = downward d;
+      asked = eqb (byte / 32 % 2) 1;
+      escape = escapes byte;
+      continues = false;
+    }
+
+-- a line under way is in range
+abbrev pub GoodLineIn : Motion → Type 0
+GoodLineIn Nothing = Unit {0}
+GoodLineIn (Line l) = GoodLine l
+GoodLineIn (Bytes t) = Unit {0}
+
+-- the next move of a motion; mode 3 is vector continue
+unfoldable pub nextMove : Motion → ℕ → ℕ → Moving
+nextMove Nothing mode scale = Still
+nextMove (Line l) mode scale = Going (lineMove l (distance scale) (eqb mode 3))
+nextMove (Bytes t) mode scale = Going (byteMove t (distance scale))
+
+-- vector continue: until a move would violate; that beat moves nothing, lights nothing, sets no flag and ends the command
+unfoldable pub ended : Base → Bool → Moved
+ended b escape =
+    record {
+      registers =
+          record {
+            base = beamSet b (b .x) (b .y) (b .datastate && not escape) (b .horizontal) (b .vertical) (b .running);
+            motion = Nothing;
+          };
+      lit = Dark;
+      stop = On;
+    }
+
+-- a move made: x's dimension by condition bits 6, 7, y's by 4, 5
+unfoldable pub displaced : Base → Move → Moved
+displaced b m =
+    let x = moved (dimension (bits (b .conditions) 6 7)) (b .x) (m .travelx) (m .minusx) in
+    let y = moved (dimension (bits (b .conditions) 4 5)) (b .y) (m .travely) (m .minusy) in
+    pick (m .continues && (x .violated || y .violated)) (ended b (m .escape))
+    (arrived b (m .motion) x y (m .asked) (m .escape && not (m .continues)))

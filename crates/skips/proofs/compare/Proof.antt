@@ -1,0 +1,15 @@
+-- `skips::compare` meets its promise: the values are the callees'. Assumes nothing.
+use borrow.Author.Needs.{needs}
+use Rattle.skips.specs.ControlWords.{skipping, compare}
+use Rattle.skips.proofs.compare.Statement.{statement}
+use Rattle.skips.proofs.compare.Tie as tie
+
+pub compare-spec : {M : Type 1} → statement M
+unfolding compare skipping
+compare-spec =
+    tie.close
+    (tie.spec
+    (λ c κs. search needs)
+    (λ c κs. search needs)
+    (λ c κs. search needs)
+    (λ c. rw (c .skip-set .ensures, c .before .bits .ensures, c .before .before .byte-at .ensures)))

@@ -1,0 +1,13 @@
+-- `skips::skips` meets its promise: the pick is the definition's. Assumes nothing.
+use borrow.Author.Needs.{needs}
+use Rattle.skips.specs.ControlWords.{skips}
+use Rattle.skips.proofs.skips.Statement.{statement}
+use Rattle.skips.proofs.skips.Tie as tie
+
+pub skips-spec : {M : Type 1} → statement M
+unfolding skips
+skips-spec =
+    tie.close
+    (tie.spec
+    (λ c κs. search needs)
+    (λ c. rw (c .pick-bool .ensures)))

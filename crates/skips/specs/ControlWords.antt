@@ -1,0 +1,76 @@
+-- Section 'Control words' of 01, words 4 to 7, on the registers other than the motion. Words 0 to 3 are in control's file of this name. Assumes nothing.
+use Prim.Native.Nat.{ℕ, _+_, _-_, _*_, _/_, _%_}
+use mathlib.Core.Bool.{Bool, not, _&&_, _||_}
+use lib.Bits.{bitAnd, bitXor}
+use lib.Dec.{eqb, ltb}
+use Rattle.words.specs.Words.{bit, bits, pick}
+use Rattle.addresses.specs.declared.DisplayAddress.{DisplayAddress}
+use Rattle.addresses.specs.Addresses.{addressAfter}
+use Rattle.paper.specs.DataWords.{sectorZero}
+use Rattle.registers.specs.declared.Base.{Base}
+use Rattle.registers.specs.Registers.{byteAt}
+use Rattle.registers.specs.With.{withAddress, withButtons, withScale, withIntensity, withBlink, withSense, withIdle}
+
+-- every skip passes two words (01, Control words)
+unfoldable pub skipping : Base → Bool → Base
+skipping b skip = withAddress b (pick skip (addressAfter (b .address) 3) (addressAfter (b .address) 1))
+
+-- what the two setters of the code set
+abbrev pub skipSet : Base → Bool → ℕ → Bool → Bool → Base
+skipSet b skip buttons sense idle = withIdle (withSense (withButtons (skipping b skip) buttons) sense) idle
+
+abbrev pub countSet : Base → DisplayAddress → ℕ → ℕ → Bool → Base
+countSet b a s i k = withBlink (withIntensity (withScale (withAddress b a) s) i) k
+
+-- if bit 3 is 0, skip if any selected button is 0, else if any is 1 (none selected: no skip)
+unfoldable pub skips : ℕ → ℕ → Bool → Bool
+skips buttons selected sense = pick sense (not (eqb (bitAnd buttons selected) 0)) (not (eqb (bitAnd buttons selected) selected))
+
+-- then clear, then complement the selected
+unfoldable pub changed : ℕ → ℕ → Bool → Bool → ℕ
+changed buttons selected clear complement =
+    let left = pick clear (buttons - bitAnd buttons selected) buttons in
+    pick complement (bitXor left selected) left
+
+-- a word with other left or right six bits
+unfoldable pub withByte : ℕ → Bool → ℕ → ℕ
+withByte word right byte = pick right (word / 64 * 64 + byte % 64) (byte % 64 * 64 + word % 64)
+
+-- 4, 5: test, clear and complement the buttons of bank 1, of bank 2; hit flags stay (H)
+unfoldable pub buttonSkip : Base → ℕ → Bool → Base
+buttonSkip b w second =
+    let bank = byteAt (b .buttons) second in
+    let selected = bits w 6 11 in
+    withButtons (skipping b (skips bank selected (bit w 3))) (withByte (b .buttons) second (changed bank selected (bit w 4) (bit w 5)))
+
+-- 60, 61: skip unless the six buttons equal bits 6 to 11
+unfoldable pub compare : Base → ℕ → Bool → Base
+compare b w second = skipping b (not (eqb (byteAt (b .buttons) second) (bits w 6 11)))
+
+-- 62: skip once if any asked condition holds: bit 6 always; 7 beam not in sector 0; 8, 9 hit flag of bank 1, 2 off; 10 LPSI off
+unfoldable pub flagSkips : Base → ℕ → Bool
+flagSkips b w =
+    bit w 6
+    || bit w 7 && not (sectorZero (b .x) (b .y))
+    || bit w 8 && not (b .hit1)
+    || bit w 9 && not (b .hit2)
+    || bit w 10 && not (b .sense)
+
+-- then bit 11 clears LPSI
+unfoldable pub flagSkip : Base → ℕ → Base
+flagSkip b w = withSense (skipping b (flagSkips b w)) (b .sense && not (bit w 11))
+
+-- counting stops at the ends (manual 2.1.7.4)
+unfoldable pub counted : ℕ → ℕ → Bool → Bool → ℕ
+counted v top on down = pick on (pick down (v - 1) (pick (ltb v top) (v + 1) v)) v
+
+-- 63: count scale and intensity, stopping at the ends; bit 10 blink on, then bit 11 off
+unfoldable pub count : Base → ℕ → Base
+count b w =
+    countSet b (addressAfter (b .address) 1) (counted (b .scale) 3 (bit w 6) (bit w 7))
+    (counted (b .intensity) 7 (bit w 8) (bit w 9))
+    ((b .blink || bit w 10) && not (bit w 11))
+
+-- 7: bit 10 skips if idle is on, then bit 11 clears it
+unfoldable pub sync : Base → ℕ → Base
+sync b w = withIdle (skipping b (bit w 10 && b .idle)) (b .idle && not (bit w 11))

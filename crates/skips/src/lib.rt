@@ -1,0 +1,145 @@
+// The control words 4 to 7: skips on buttons and flags, counts, and the idle flag. Words 0 to 3 are in control.
+ghost use mathlib.Core.Path.{_≡_};
+ghost use Rattle.skips.specs.ControlWords.{skipSet, countSet, skips, changed, withByte, buttonSkip, compare, flagSkips, flagSkip, counted, count, sync};
+use addresses::DisplayAddress;
+use registers::Base;
+
+fn skip_set(b: Base, skip: bool, buttons: u16, sense: bool, idle: bool) -> Base
+    ensures { λ r. ⌜ r ≡ skipSet b skip buttons sense idle ⌝ }
+{
+    let address = addresses::pick_address(skip, b.address.after(3), b.address.after(1));
+    Base {
+        address,
+        buttons,
+        sense,
+        idle,
+        ..b
+    }
+}
+
+fn count_set(b: Base, address: DisplayAddress, scale: u8, intensity: u8, blink: bool) -> Base
+    ensures { λ r. ⌜ r ≡ countSet b address scale intensity blink ⌝ }
+{
+    Base {
+        address,
+        scale,
+        intensity,
+        blink,
+        ..b
+    }
+}
+
+// Whether a word of six buttons makes the display skip: a selected button is 0 or, by sense, 1.
+fn skips(buttons: u16, selected: u16, sense: bool) -> bool
+    ensures { λ r. ⌜ r ≡ skips buttons selected sense ⌝ }
+{
+    let on = buttons & selected;
+    words::pick_bool(sense, on != 0, on != selected)
+}
+
+// Six buttons, the selected ones cleared, then complemented.
+fn changed(buttons: u16, selected: u16, clear: bool, complement: bool) -> u16
+    ensures { λ r. ⌜ r ≡ changed buttons selected clear complement ⌝ }
+{
+    let left = words::pick_u16(clear, buttons - (buttons & selected), buttons);
+    words::pick_u16(complement, left ^ selected, left)
+}
+
+// A word with its left or its right six bits set.
+fn with_byte(word: u16, right: bool, byte: u16) -> u16
+    ensures { λ r. ⌜ r ≡ withByte word right byte ⌝ }
+{
+    words::pick_u16(
+        right,
+        word / 64 * 64 + byte % 64,
+        byte % 64 * 64 + word % 64,
+    )
+}
+
+// 4 and 5: skip on the selected buttons of bank 1 or, with `second`, of bank 2.
+pub fn button_skip(b: Base, word: u16, second: bool) -> Base
+    ensures { λ r. ⌜ r ≡ buttonSkip b word second ⌝ }
+{
+    let bank = registers::byte_at(b.buttons, second);
+    let selected = words::bits(word, 6, 11);
+    let skip = skips(bank, selected, words::bit(word, 3));
+    let after = changed(bank, selected, words::bit(word, 4), words::bit(word, 5));
+    skip_set(
+        b,
+        skip,
+        with_byte(b.buttons, second, after),
+        b.sense,
+        b.idle,
+    )
+}
+
+// 60 and 61: skip unless the bank equals bits 6 to 11.
+pub fn compare(b: Base, word: u16, second: bool) -> Base
+    ensures { λ r. ⌜ r ≡ compare b word second ⌝ }
+{
+    let bank = registers::byte_at(b.buttons, second);
+    let wanted = words::bits(word, 6, 11);
+    skip_set(b, bank != wanted, b.buttons, b.sense, b.idle)
+}
+
+// Whether a condition that word 62 asks holds.
+fn flag_skips(b: Base, word: u16) -> bool
+    ensures { λ r. ⌜ r ≡ flagSkips b word ⌝ }
+{
+    let screen = paper::sector_zero(b.x, b.y);
+    let away = words::bit(word, 7) & !screen;
+    let first = words::bit(word, 8) & !b.hit1;
+    let second = words::bit(word, 9) & !b.hit2;
+    let dark = words::bit(word, 10) & !b.sense;
+    words::bit(word, 6) | away | first | second | dark
+}
+
+// 62: skip on flags, then clear LPSI.
+pub fn flag_skip(b: Base, word: u16) -> Base
+    ensures { λ r. ⌜ r ≡ flagSkip b word ⌝ }
+{
+    let skip = flag_skips(b, word);
+    let clear = words::bit(word, 11);
+    skip_set(b, skip, b.buttons, b.sense & !clear, b.idle)
+}
+
+// One up, or down, stopping at the ends.
+fn counted(value: u8, top: u8, on: bool, down: bool) -> u8
+    ensures { λ r. ⌜ r ≡ counted value top on down ⌝ }
+{
+    if on {
+        if down {
+            if 0 < value { value - 1 } else { 0 }
+        } else {
+            if value < top { value + 1 } else { value }
+        }
+    } else {
+        value
+    }
+}
+
+// 63: count scale and intensity, blink on, then off.
+pub fn count(b: Base, word: u16) -> Base
+    ensures { λ r. ⌜ r ≡ count b word ⌝ }
+{
+    let scale = counted(b.scale, 3, words::bit(word, 6), words::bit(word, 7));
+    let intensity = counted(b.intensity, 7, words::bit(word, 8), words::bit(word, 9));
+    let on = words::bit(word, 10);
+    let off = words::bit(word, 11);
+    count_set(
+        b,
+        b.address.after(1),
+        scale,
+        intensity,
+        (b.blink | on) & !off,
+    )
+}
+
+// 7: skip if idle is on, then clear it.
+pub fn sync(b: Base, word: u16) -> Base
+    ensures { λ r. ⌜ r ≡ sync b word ⌝ }
+{
+    let skip = words::bit(word, 10) & b.idle;
+    let clear = words::bit(word, 11);
+    skip_set(b, skip, b.buttons, b.sense, b.idle & !clear)
+}

@@ -1,6 +1,7 @@
 // The control words 4 to 7: skips on buttons and flags, counts, and the idle flag. Words 0 to 3 are in control.
 ghost use mathlib.Core.Path.{_≡_};
-ghost use Rattle.skips.specs.ControlWords.{skipSet, countSet, skips, changed, withByte, buttonSkip, compare, flagSkips, flagSkip, counted, count, sync};
+ghost use mathlib.Core.Bool.{false};
+ghost use Rattle.skips.specs.ControlWords.{skipping, skipSet, countSet, skips, changed, withByte, buttonSkip, compare, flagSkips, flagSkip, counted, count, sync};
 use addresses::DisplayAddress;
 use registers::Base;
 
@@ -54,6 +55,13 @@ fn with_byte(word: u16, right: bool, byte: u16) -> u16
         word / 64 * 64 + byte % 64,
         byte % 64 * 64 + word % 64,
     )
+}
+
+// A word that does nothing is passed.
+pub fn passed(b: Base) -> Base
+    ensures { λ r. ⌜ r ≡ skipping b false ⌝ }
+{
+    skip_set(b, false, b.buttons, b.sense, b.idle)
 }
 
 // 4 and 5: skip on the selected buttons of bank 1 or, with `second`, of bank 2.

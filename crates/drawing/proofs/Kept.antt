@@ -1,0 +1,71 @@
+-- The command beat of a data word leaves registers in range, and the motion that it begins is one of its mode. Assumes nothing.
+use Prim.Native.Nat.{ℕ, _≤_, _<_}
+use mathlib.Core.Path.{_≡_, refl}
+use mathlib.Core.Bool.{Bool, true}
+use native.Mathlib.Nat.{le-refl}
+use native.Mathlib.Omega.{arith}
+use borrow.Author.Tests.{eqb-false}
+use Rattle.words.proofs.Laws.{pick-case}
+use Rattle.addresses.specs.declared.DisplayAddress.{DisplayAddress}
+use Rattle.addresses.specs.Addresses.{addressAfter}
+use Rattle.paper.proofs.Moves.{moved-small}
+use Rattle.registers.specs.declared.Base.{Base}
+use Rattle.registers.specs.declared.LineMotion.{LineMotion}
+use Rattle.registers.specs.declared.Motion.the-variants.{Nothing}
+use Rattle.registers.specs.Registers.{larger, GoodBase, Good}
+use Rattle.registers.specs.With.{withAddress}
+use Rattle.registers.proofs.Setting.{address-set}
+use Rattle.moves.specs.declared.Moved.{Moved}
+use Rattle.moves.proofs.Kept.{arrived-good, some-asked}
+use Rattle.drawing.specs.DataWords.{placed, point, increment, vectorLine, shortLine, begun, vector, shortVector, graphplot}
+
+placed-small : (w old : ℕ) (inhibit : Bool) → old < 8192 → placed w old inhibit .value < 8192
+unfolding placed
+placed-small w old inhibit h = pick-case (λ (n : ℕ). n < 8192) inhibit (λ _. h) (λ _. omega arith)
+
+passed : (b : Base) (j : ℕ) → GoodBase b → GoodBase (withAddress b (addressAfter (b .address) j))
+unfolding addressAfter
+passed b j g = address-set g (omega arith)
+
+pub point-good : (b : Base) (w v : ℕ) → GoodBase b → Good (point b w v .registers)
+unfolding point
+point-good b w v g = arrived-good _ Nothing _ _ _ _ (passed b 2 g) (placed-small v _ _ (g .x)) (placed-small w _ _ (g .y)) tt
+
+pub graphplot-good : (b : Base) (w : ℕ) → GoodBase b → Good (graphplot b w .registers)
+unfolding graphplot
+graphplot-good b w g =
+    pick-case (λ (q : Moved). Good (q .registers)) _
+    (λ _. arrived-good _ Nothing _ _ _ _ (passed b 1 g) (placed-small w _ _ (g .x)) (moved-small _ _ _ _ (omega arith) (g .y)) tt)
+    (λ _. arrived-good _ Nothing _ _ _ _ (passed b 1 g) (moved-small _ _ _ _ (omega arith) (g .x)) (placed-small w _ _ (g .y)) tt)
+
+pub increment-good : (b : Base) (w : ℕ) → GoodBase b → b .datastate ≡ true → b .mode ≡ 1 → w ≤ 4095 → Good (increment b w .registers)
+unfolding increment
+increment-good b w g d m h =
+    record {
+      base = passed b 1 g;
+      motion = (d, m, record { word = omega arith; some = some-asked _; asked = le-refl _; reached = refl });
+    }
+
+-- a line is begun only where it has a move to make
+begun-good : (b : Base) (a : DisplayAddress) (l : LineMotion) →
+    GoodBase b → b .datastate ≡ true → 2 ≤ b .mode → b .mode ≤ 4 → a .0 < 32768 →
+    l .magx < 1024 → l .magy < 1024 → l .moves ≡ larger (l .magx) (l .magy) → l .done ≡ 0 →
+    Good (begun b a l .registers)
+unfolding begun
+begun-good b a l g d low high h hx hy n k =
+    pick-case (λ (q : Moved). Good (q .registers)) _ (λ _. record { base = address-set g h; motion = tt })
+    (λ e. let some = eqb-false (l .moves) 0 e in
+    record {
+      base = address-set g h;
+      motion = (d, low, high, record { magx = hx; magy = hy; larger = n; some = omega (arith, some); done = omega (arith, some) });
+    })
+
+pub vector-good : (b : Base) (w v : ℕ) → GoodBase b → b .datastate ≡ true → 2 ≤ b .mode → b .mode ≤ 4 → Good (vector b w v .registers)
+unfolding vector vectorLine
+vector-good b w v g d low high =
+    begun-good b _ (vectorLine w v) g d low high (passed b 2 g .address) (omega arith) (omega arith) refl refl
+
+pub short-vector-good : (b : Base) (w : ℕ) → GoodBase b → b .datastate ≡ true → 2 ≤ b .mode → b .mode ≤ 4 → Good (shortVector b w .registers)
+unfolding shortVector shortLine
+short-vector-good b w g d low high =
+    begun-good b _ (shortLine w) g d low high (passed b 1 g .address) (omega arith) (omega arith) refl refl

@@ -12,7 +12,7 @@ use Rattle.registers.specs.Registers.{GoodBase}
 use Rattle.registers.proofs.Setting.{address-set, buttons-set, scale-set, intensity-set}
 use Rattle.skips.specs.ControlWords.{skipping, withByte, buttonSkip, compare, flagSkip, counted, count, sync}
 
-skipping-good : (b : Base) (skip : Bool) → GoodBase b → GoodBase (skipping b skip)
+pub skipping-good : (b : Base) (skip : Bool) → GoodBase b → GoodBase (skipping b skip)
 unfolding skipping addressAfter
 skipping-good b skip g =
     address-set g (pick-case (λ (a : DisplayAddress). a .0 < 32768) skip (λ _. omega arith) (λ _. omega arith))

@@ -1,0 +1,17 @@
+-- `machine::halted` meets its promise: each arm is a clause of the definition. Assumes nothing.
+use borrow.Author.Needs.{needs}
+use Rattle.machine.specs.Runs.{halted}
+use Rattle.machine.proofs.halted.Statement.{statement}
+use Rattle.machine.proofs.halted.Tie as tie
+
+pub halted-spec : {M : Type 1} → statement M
+unfolding halted
+halted-spec =
+    tie.close
+    (tie.spec
+    (λ c. search needs)
+    (λ c. search needs)
+    (λ c. search needs)
+    (λ c. rw (c .enum-told .given .1))
+    (λ c. rw (c .enum-told2 .given .1))
+    (λ c. rw (c .enum-told3 .given .1)))

@@ -1,0 +1,156 @@
+-- Section 'Refused calls and run endings' of 01, and the run of 'One turn of a run': a run by its budget, its endings, and the whole call with its
+-- refusals. Memory, points and beats come out of the turns that the definition takes. Assumes nothing.
+use Prim.Native.Nat.{ℕ, zero, suc, _-_}
+use mathlib.Core.Path.{_≡_}
+use mathlib.Core.Bool.{true, false}
+use mathlib.Core.List.{List, [], _++_}
+use lib.Dec.{eqb, leb}
+use lib.ListN.{length, set, drop}
+use Rattle.words.specs.Words.{pick}
+use Rattle.registers.specs.declared.Registers.{Registers}
+use Rattle.registers.specs.Registers.{inRange}
+use Rattle.registers.specs.With.{withRunning, withRequest, withExternal}
+use Rattle.moves.specs.declared.Stop.{Stop}
+use Rattle.moves.specs.declared.Stop.the-variants.{On, Internal, Edge}
+use Rattle.loan.specs.declared.Loan.{Loan}
+use Rattle.loan.specs.Loan.{fairLoan}
+use Rattle.beats.specs.declared.Act.{Act}
+use Rattle.beats.specs.declared.Stores.{Stores}
+use Rattle.beats.specs.declared.Stores.the-variants.{Nowhere, Two}
+use Rattle.beats.specs.declared.Resting.{Resting}
+use Rattle.beats.specs.declared.Resting.the-variants.{External, Unusable}
+use Rattle.beats.specs.declared.Why.the-variants.{Fetch, Store, Wide, Full}
+use Rattle.beats.specs.OneTurn.{Turn, Fails, Rests, Does, points, turn}
+use Rattle.machine.specs.declared.Ending.{Ending}
+use Rattle.machine.specs.declared.Ending.the-variants.{NotRunning, BudgetSpent, InternalStop, ExternalStop, EdgeStop, UnusableMode, Failed}
+use Rattle.machine.specs.declared.Halt.{Halt}
+use Rattle.machine.specs.declared.Halt.the-variants.{Goes, Ends}
+use Rattle.machine.specs.declared.Answer.{Answer}
+use Rattle.machine.specs.declared.Answer.the-variants.{Refused, Ended}
+use Rattle.machine.specs.declared.Ran.{Ran}
+
+-- THE RUN
+
+-- the words that a beat stores, in order
+abbrev pub stored : Stores → List ℕ → List ℕ
+stored Nowhere m = m
+stored (Two at word next second) m = set (set m (at .0) word) (next .0) second
+
+-- a stop request: request off, external flag on, running off, 13; an unusable mode: running off, 15, no flag
+unfoldable pub rested : Registers → Resting → Registers
+rested r External =
+    record { base = withRunning (withExternal (withRequest (r .base) false) true) false; motion = r .motion }
+rested r Unusable = record { base = withRunning (r .base) false; motion = r .motion }
+
+unfoldable pub restEnding : Resting → Ending
+restEnding External = ExternalStop
+restEnding Unusable = UnusableMode
+
+-- what a run leaves: registers, memory, the lit points in order, beats and ending
+pub record Run : Type 0 where
+  pub registers : Registers
+  pub memory : List ℕ
+  pub lit : List ℕ
+  pub beats : ℕ
+  pub ending : Ending
+
+abbrev pub ended : Registers → List ℕ → Ending → Run
+ended r m e = record { registers = r; memory = m; lit = []; beats = 0; ending = e }
+
+-- what a beat that lit these adds to the rest of the run
+abbrev pub made : List ℕ → Run → Run
+made ps f =
+    record { registers = f .registers; memory = f .memory; lit = ps ++ f .lit; beats = suc (f .beats); ending = f .ending }
+
+-- how a run goes on, by the room that is left, the registers and the memory
+abbrev pub Go : Type 0
+Go = ℕ → Registers → List ℕ → Run
+
+-- a beat that stops the display ends the run with 12 or 14
+unfoldable pub halted : Stop → Halt
+halted On = Goes
+halted Internal = Ends InternalStop
+halted Edge = Ends EdgeStop
+
+abbrev pub follow : Go → ℕ → List ℕ → Act → Halt → Run
+follow go room m c Goes = go (room - length (points (c .lit))) (c .registers) (stored (c .stores) m)
+follow go room m c (Ends ending) = ended (c .registers) (stored (c .stores) m) ending
+
+-- endings 16, 17, 18 change nothing and leave running on; 13 and 15 make no beat
+abbrev pub onward : Go → ℕ → Registers → List ℕ → Turn → Run
+onward go room r m (Fails why) = ended r m (Failed why)
+onward go room r m (Rests resting) = ended (rested r resting) m (restEnding resting)
+onward go room r m (Does c) = made (points (c .lit)) (follow go room m c (halted (c .stop)))
+
+-- a run by its budget: used up, 11, before anything else is tested
+unfoldable pub run : ℕ → Loan → ℕ → Registers → List ℕ → Run
+run zero l room r m = ended r m BudgetSpent
+run (suc k) l room r m = onward (run k l) room r m (turn l room r m)
+
+-- if not running at entry: 10
+unfoldable pub entered : ℕ → Loan → ℕ → Registers → List ℕ → Run
+entered k l room r m = pick (r .base .running) (run k l room r m) (ended r m NotRunning)
+
+-- THE CALL
+
+-- what a call leaves
+pub record Left : Type 0 where
+  pub ran : Ran
+  pub memory : List ℕ
+  pub points : List ℕ
+
+abbrev pub leaves : Ran → List ℕ → List ℕ → Left
+leaves t m ps = record { ran = t; memory = m; points = ps }
+
+-- a refusal returns the registers as given and stores nothing
+abbrev pub refusedRun : Registers → ℕ → Ran
+refusedRun r number = record { registers = r; answer = Refused number }
+
+-- the first entries of the point list are filled in order from place 0; the rest stay
+abbrev pub left : Run → List ℕ → Left
+left f ps =
+    record {
+      ran = record { registers = f .registers; answer = Ended (f .ending) (f .beats) (length (f .lit)) };
+      memory = f .memory;
+      points = f .lit ++ drop (length (f .lit)) ps;
+    }
+
+-- runs test 1, 2, 3, 4; the first that applies is given, and none otherwise
+unfoldable pub call : ℕ → Loan → Registers → List ℕ → List ℕ → Left
+call budget l r m ps =
+    pick (eqb (length m) 32768)
+    (pick (leb budget 65535)
+    (pick (fairLoan l)
+    (pick (inRange r) (left (entered budget l (length ps) r m) ps) (leaves (refusedRun r 4) m ps))
+    (leaves (refusedRun r 3) m ps))
+    (leaves (refusedRun r 2) m ps))
+    (leaves (refusedRun r 1) m ps)
+
+-- no accepted call leaves registers that 4 refuses (01, Registers)
+abbrev pub KeepsInRange : Type 0
+KeepsInRange =
+    (budget : ℕ) (l : Loan) (r : Registers) (m ps : List ℕ) → inRange r ≡ true → inRange (call budget l r m ps .ran .registers) ≡ true
+
+-- THIS PAPER'S NUMBERS for each answer: ending, word, beats and points. A run's word is 0
+
+unfoldable pub endingNumber : Ending → ℕ
+endingNumber NotRunning = 10
+endingNumber BudgetSpent = 11
+endingNumber InternalStop = 12
+endingNumber ExternalStop = 13
+endingNumber EdgeStop = 14
+endingNumber UnusableMode = 15
+endingNumber (Failed (Fetch a)) = 16
+endingNumber (Failed (Store a)) = 16
+endingNumber (Failed (Wide a)) = 17
+endingNumber (Failed Full) = 18
+
+pub record Numbers : Type 0 where
+  pub ending : ℕ
+  pub word : ℕ
+  pub beats : ℕ
+  pub points : ℕ
+
+abbrev pub numbers : Answer → Numbers
+numbers (Refused number) = record { ending = number; word = 0; beats = 0; points = 0 }
+numbers (Ended ending beats points) = record { ending = endingNumber ending; word = 0; beats = beats; points = points }

@@ -1,0 +1,4 @@
+pub mod Agreeing
+pub mod Keeping
+pub mod Freeing
+pub mod Calls

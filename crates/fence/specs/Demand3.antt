@@ -1,0 +1,100 @@
+-- What demand 3 says, each sentence with the statement that says it, over demand 2's machine and nothing else: `entered` is the run of an accepted call,
+-- `call` the whole call, refused or run (machine's Runs.antt). The proofs look at no instruction. Assumes nothing.
+use Prim.Native.Nat.{ℕ, _-_}
+use mathlib.Core.Path.{_≡_}
+use mathlib.Core.Bool.{Bool, true, false}
+use mathlib.Core.List.{List}
+use lib.ListN.{length, getD, take}
+use Rattle.addresses.specs.declared.DisplayAddress.{DisplayAddress}
+use Rattle.registers.specs.declared.Registers.{Registers}
+use Rattle.loan.specs.declared.Loan.{Loan}
+use Rattle.loan.specs.Loan.{mayFetch, mayStore, Fair, all}
+use Rattle.beats.specs.declared.Why.{Why}
+use Rattle.beats.specs.declared.Why.the-variants.{Fetch, Store, Wide, Full}
+use Rattle.beats.specs.OneTurn.{Fails, turn}
+use Rattle.machine.specs.declared.Ending.{Ending}
+use Rattle.machine.specs.declared.Ending.the-variants.{NotRunning, BudgetSpent, InternalStop, ExternalStop, EdgeStop, UnusableMode, Failed}
+use Rattle.machine.specs.declared.Answer.the-variants.{Ended}
+use Rattle.machine.specs.Runs.{Run, entered, Left, call, numbers}
+
+-- "two memories that agree on every word lent"
+abbrev pub Agree : Loan → List ℕ → List ℕ → Type 0
+Agree l m n = (length m ≡ length n) × ((a : DisplayAddress) → mayFetch l a ≡ true → getD m (a .0) 0 ≡ getD n (a .0) 0)
+
+-- "the same registers, ending, beats, points and lent words"
+pub record Same (l : Loan) (f g : Run) : Type 0 where
+  pub registers : f .registers ≡ g .registers
+  pub ending : f .ending ≡ g .ending
+  pub beats : f .beats ≡ g .beats
+  pub lit : f .lit ≡ g .lit
+  pub words : Agree l (f .memory) (g .memory)
+
+-- a run ends at the fence if its last touch was outside the loan
+unfoldable pub fenced : Ending → Bool
+fenced NotRunning = false
+fenced BudgetSpent = false
+fenced InternalStop = false
+fenced ExternalStop = false
+fenced EdgeStop = false
+fenced UnusableMode = false
+fenced (Failed (Fetch a)) = true
+fenced (Failed (Store a)) = true
+fenced (Failed (Wide a)) = false
+fenced (Failed Full) = false
+
+-- "one the loan doesn't allow"
+abbrev pub Outside : Loan → Why → Type 0
+Outside l (Fetch a) = mayFetch l a ≡ false
+Outside l (Store a) = mayStore l a ≡ false
+Outside l (Wide a) = ⊥
+Outside l Full = ⊥
+
+-- the registers, words and points of a run, with a budget of just its beats
+abbrev pub cut : Run → Run
+cut f = record { registers = f .registers; memory = f .memory; lit = f .lit; beats = f .beats; ending = BudgetSpent }
+
+-- "one that ends there after b beats has the registers, words and points of that other run with budget b, and its next beat's first touch that can't be
+-- made is one the loan doesn't allow"
+pub record AtFence (l : Loan) (room : ℕ) (r : Registers) (m : List ℕ) (f : Run) : Type 0 where
+  pub why : Why
+  pub stopped : turn l (room - length (f .lit)) (f .registers) (f .memory) ≡ Fails why
+  pub outside : Outside l why
+  pub before : entered (f .beats) all room r m ≡ cut f
+
+-- what two calls answer alike: the registers and the answer, the lent words, and the points lit
+pub record SameCall (l : Loan) (t u : Left) : Type 0 where
+  pub ran : t .ran ≡ u .ran
+  pub words : Agree l (t .memory) (u .memory)
+  pub lit : take (numbers (t .ran .answer) .points) (t .points) ≡ take (numbers (u .ran .answer) .points) (u .points)
+
+-- what a call leaves, with the answer of a budget that is spent
+abbrev pub spent : Left → ℕ → ℕ → Left
+spent t b p =
+    record {
+      ran = record { registers = t .ran .registers; answer = Ended BudgetSpent b p };
+      memory = t .memory;
+      points = t .points;
+    }
+
+-- DEMAND 3, over every loan, budget, room, registers and memory
+pub record Isolated : Type 0 where
+  -- "Take two memories that agree on every word lent, with equal registers, loan, budget and point-list length. Their accepted runs give the same"
+  pub agrees : (l : Loan) (k room : ℕ) (r : Registers) (m n : List ℕ) → Agree l m n → Same l (entered k l room r m) (entered k l room r n)
+  -- "no word outside the list range changes in either"
+  pub keeps : (l : Loan) (k room : ℕ) (r : Registers) (m : List ℕ) (a : DisplayAddress) → mayStore l a ≡ false →
+      getD (entered k l room r m .memory) (a .0) 0 ≡ getD m (a .0) 0
+  -- "A run that doesn't end at the fence is the run with all of memory lent"
+  pub free : (l : Loan) → Fair l → (k room : ℕ) (r : Registers) (m : List ℕ) → fenced (entered k l room r m .ending) ≡ false →
+      entered k l room r m ≡ entered k all room r m
+  -- "One that ends there"
+  pub stopped : (l : Loan) → Fair l → (k room : ℕ) (r : Registers) (m : List ℕ) → fenced (entered k l room r m .ending) ≡ true →
+      AtFence l room r m (entered k l room r m)
+  -- the same of whole calls, with two point lists of one length; refused calls answer alike
+  pub calls-agree : (k : ℕ) (l : Loan) (r : Registers) (m n ps qs : List ℕ) → Agree l m n → length ps ≡ length qs →
+      SameCall l (call k l r m ps) (call k l r n qs)
+  pub calls-keep : (k : ℕ) (l : Loan) (r : Registers) (m ps : List ℕ) (a : DisplayAddress) → mayStore l a ≡ false →
+      getD (call k l r m ps .memory) (a .0) 0 ≡ getD m (a .0) 0
+  pub calls-free : (k : ℕ) (l : Loan) (r : Registers) (m ps : List ℕ) {e : Ending} {b p : ℕ} →
+      call k l r m ps .ran .answer ≡ Ended e b p → fenced e ≡ false → call k l r m ps ≡ call k all r m ps
+  pub calls-stopped : (k : ℕ) (l : Loan) (r : Registers) (m ps : List ℕ) {e : Ending} {b p : ℕ} →
+      call k l r m ps .ran .answer ≡ Ended e b p → fenced e ≡ true → call b all r m ps ≡ spent (call k l r m ps) b p

@@ -1,10 +1,20 @@
 -- `sheet::checked` meets its promise: every row is computed, over the definitions alone. Assumes nothing.
 use mathlib.Core.Path.{refl}
-use Rattle.sheet.specs.Sheet.{sheet, agrees, wrong, sameList, offsetsFrom}
-use Rattle.paper.specs.DataWords.{moved, offset}
+use Rattle.words.specs.Words.{pick}
+use Rattle.addresses.specs.Addresses.{addressAfter, addressIn, pointerAfter, fieldZero}
+use Rattle.paper.specs.DataWords.{distance, moved, offset, advance, sectorZero}
+use Rattle.registers.specs.Registers.{larger, byteAt, movesAsked, escapes}
+use Rattle.control.specs.ControlWords.{scaleBy, penBy, coordinate, mode, jump, push, pushedFirst, pushedSecond}
+use Rattle.skips.specs.ControlWords.{skipping, skips, changed, withByte, buttonSkip}
+use Rattle.moves.specs.DataWords.{litAt, arrived, lineNext, lineMove, byteNext, byteMove, nextMove, ended, displaced}
+use Rattle.drawing.specs.DataWords.{increment, vectorLine, shortLine, begun, vector, shortVector}
+use Rattle.loan.specs.Loan.{within, mayFetch, mayStore}
+use Rattle.beats.specs.OneTurn.{got, storing, walk, pushAct, jumpBeat, controlBeat, longBeat, dataBeat, commandBeat, unusable, idleBeat, roomFor, turn}
+use Rattle.machine.specs.Runs.{halted, run, entered, endingNumber}
+use Rattle.sheet.specs.Sheet.{sheet, agrees, wrong, sameList, offsetsFrom, loaded}
 use Rattle.sheet.proofs.checked.Statement.{statement}
 use Rattle.sheet.proofs.checked.Tie as tie
 
 pub checked-spec : {M : Type 1} → statement M
-unfolding sheet agrees wrong sameList offsetsFrom moved offset
+unfolding sheet agrees wrong sameList offsetsFrom loaded pick addressAfter addressIn pointerAfter fieldZero distance moved offset advance sectorZero larger byteAt movesAsked escapes scaleBy penBy coordinate mode jump push pushedFirst pushedSecond skipping skips changed withByte buttonSkip litAt arrived lineNext lineMove byteNext byteMove nextMove ended displaced increment vectorLine shortLine begun vector shortVector within mayFetch mayStore got storing walk pushAct jumpBeat controlBeat longBeat dataBeat commandBeat unusable idleBeat roomFor turn halted run entered endingNumber
 checked-spec = tie.close (tie.spec (λ c. refl))

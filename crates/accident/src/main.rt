@@ -1,9 +1,8 @@
-// The accident of May: an exercise that forgets its stop runs off its end into old words that look like push jumps. Run once with the class's loan and once
-// with all of memory lent, it shows what the fence keeps.
+// The accident of May: an exercise that forgets its stop runs off its end into old words that look like push jumps. Run with the class's loan, with
+// the old words lent too, and with all of memory lent, it shows what the fence keeps.
 use libc::STDOUT_FILENO;
 use loan::Loan;
-use machine::Answer;
-use machine::Ending;
+use machine::Numbers;
 
 // The exercise lies at 1000o, the class's pushdown list at 7000o, and the recovered character table, 64 words of it, behind the list at 7100o.
 const EXERCISE: usize = 512;
@@ -49,30 +48,13 @@ fn damaged(memory: &[u16; 32768]) -> u64 {
     changed
 }
 
-fn ending_number(ending: Ending) -> u64 {
-    match ending {
-        Ending::NotRunning => 10,
-        Ending::BudgetSpent => 11,
-        Ending::InternalStop => 12,
-        Ending::ExternalStop => 13,
-        Ending::EdgeStop => 14,
-        Ending::UnusableMode => 15,
-        Ending::Failed(why) => match why {
-            beats::Why::Fetch(_) => 16,
-            beats::Why::Store(_) => 16,
-            beats::Why::Wide(_) => 17,
-            beats::Why::Full => 18,
-        },
-    }
-}
-
-fn told(ending: Ending, beats: u32, points: usize, changed: u64) {
+fn tell(answer: Numbers, changed: u64) {
     io::write_all(STDOUT_FILENO, b"ending ");
-    io::print_decimal(STDOUT_FILENO, ending_number(ending));
+    io::print_decimal(STDOUT_FILENO, answer.ending as u64);
     io::write_all(STDOUT_FILENO, b" after ");
-    io::print_decimal(STDOUT_FILENO, beats as u64);
+    io::print_decimal(STDOUT_FILENO, answer.beats as u64);
     io::write_all(STDOUT_FILENO, b" beats, ");
-    io::print_decimal(STDOUT_FILENO, points as u64);
+    io::print_decimal(STDOUT_FILENO, answer.points as u64);
     io::write_all(STDOUT_FILENO, b" point lit, ");
     io::print_decimal(STDOUT_FILENO, changed);
     io::write_all(
@@ -89,12 +71,7 @@ fn tried(lent: Loan) {
     let ready = host::operate(started, 2, LIST as u32).registers;
     let ran = machine::run(ready, lent, &mut memory, &mut points, 70);
     let answer = ran.answer;
-    match answer {
-        Answer::Refused(_) => {
-            io::write_all(STDOUT_FILENO, b"refused\n");
-        }
-        Answer::Ended(ending, beats, lit) => told(ending, beats, lit, damaged(&memory)),
-    }
+    tell(machine::numbered(answer), damaged(&memory));
 }
 
 fn main() {
@@ -105,6 +82,16 @@ fn main() {
     tried(Loan {
         filelow: 512,
         filehigh: 517,
+        listlow: 3584,
+        listhigh: 3648,
+    });
+    io::write_all(
+        STDOUT_FILENO,
+        b"With the old words lent too (file 1000o to 1007o, the same list):\n  ",
+    );
+    tried(Loan {
+        filelow: 512,
+        filehigh: 519,
         listlow: 3584,
         listhigh: 3648,
     });

@@ -25,7 +25,7 @@ use Rattle.beats.specs.declared.Why.{Why}
 use Rattle.beats.specs.declared.Why.the-variants.{Fetch, Store, Wide, Full}
 use Rattle.beats.specs.OneTurn.{Beat, fetch, act, rest, Turn, Fails, Rests, Does, got, onGot, storing, walk, beat, points, roomFor, turn}
 use Rattle.machine.specs.declared.Ending.{Ending}
-use Rattle.machine.specs.declared.Ending.the-variants.{NotRunning, InternalStop, EdgeStop}
+use Rattle.machine.specs.declared.Ending.the-variants.{NotRunning, InternalStop, EdgeStop, Failed}
 use Rattle.machine.specs.declared.Halt.{Halt}
 use Rattle.machine.specs.declared.Halt.the-variants.{Goes, Ends}
 use Rattle.machine.specs.Runs.{stored, restEnding, halted, Run, ended, made, Go, follow, onward, run, entered}
@@ -59,6 +59,7 @@ never t p q = let z : true ≡ false = sym p ∙ q in let y : _≡_ {A = ℕ} 0 
 -- AtFence of the turns alone, before it is asked whether the display runs
 record Stopped (l : Loan) (room : ℕ) (r : Registers) (m : List ℕ) (g : Run) : Type 0 where
   why : Why
+  ending : g .ending ≡ Failed why
   stopped : turn l (room - length (g .lit)) (g .registers) (g .memory) ≡ Fails why
   outside : Outside l why
   before : run (g .beats) all room r m ≡ cut g
@@ -143,9 +144,9 @@ module _ (l : Loan) (f : Fair l) where
       fenced (onward (run k l) room r m t .ending) ≡ true → Stopped l room r m (onward (run k l) room r m t)
   unfolding fenced run
   onward-stopped k ih room r m (Fails (Fetch a)) q o e =
-      record { why = Fetch a; stopped = rw sub-zero q; outside = o; before = refl }
+      record { why = Fetch a; ending = refl; stopped = rw sub-zero q; outside = o; before = refl }
   onward-stopped k ih room r m (Fails (Store a)) q o e =
-      record { why = Store a; stopped = rw sub-zero q; outside = o; before = refl }
+      record { why = Store a; ending = refl; stopped = rw sub-zero q; outside = o; before = refl }
   onward-stopped k ih room r m (Fails (Wide a)) q o e = never false e refl
   onward-stopped k ih room r m (Fails Full) q o e = never false e refl
   onward-stopped k ih room r m (Rests resting) q o e = never _ e (rested-free resting)
@@ -161,6 +162,7 @@ module _ (l : Loan) (f : Fair l) where
           in
           record {
             why = i .why;
+            ending = i .ending;
             stopped = rw s (i .stopped);
             outside = i .outside;
             before =
@@ -187,6 +189,7 @@ module _ (l : Loan) (f : Fair l) where
           let i = run-stopped k room r m e in
           record {
             why = i .why;
+            ending = i .ending;
             stopped = i .stopped;
             outside = i .outside;
             before =

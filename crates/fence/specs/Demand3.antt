@@ -15,7 +15,7 @@ use Rattle.beats.specs.OneTurn.{Fails, turn}
 use Rattle.machine.specs.declared.Ending.{Ending}
 use Rattle.machine.specs.declared.Ending.the-variants.{NotRunning, BudgetSpent, InternalStop, ExternalStop, EdgeStop, UnusableMode, Failed}
 use Rattle.machine.specs.declared.Answer.the-variants.{Ended}
-use Rattle.machine.specs.Runs.{Run, entered, Left, call, numbers}
+use Rattle.machine.specs.Runs.{Run, entered, Left, call, numbered}
 
 -- "two memories that agree on every word lent"
 abbrev pub Agree : Loan → List ℕ → List ℕ → Type 0
@@ -57,6 +57,7 @@ cut f = record { registers = f .registers; memory = f .memory; lit = f .lit; bea
 -- made is one the loan doesn't allow"
 pub record AtFence (l : Loan) (room : ℕ) (r : Registers) (m : List ℕ) (f : Run) : Type 0 where
   pub why : Why
+  pub ending : f .ending ≡ Failed why
   pub stopped : turn l (room - length (f .lit)) (f .registers) (f .memory) ≡ Fails why
   pub outside : Outside l why
   pub before : entered (f .beats) all room r m ≡ cut f
@@ -65,7 +66,7 @@ pub record AtFence (l : Loan) (room : ℕ) (r : Registers) (m : List ℕ) (f : R
 pub record SameCall (l : Loan) (t u : Left) : Type 0 where
   pub ran : t .ran ≡ u .ran
   pub words : Agree l (t .memory) (u .memory)
-  pub lit : take (numbers (t .ran .answer) .points) (t .points) ≡ take (numbers (u .ran .answer) .points) (u .points)
+  pub lit : take (numbered (t .ran .answer) .points) (t .points) ≡ take (numbered (u .ran .answer) .points) (u .points)
 
 -- what a call leaves, with the answer of a budget that is spent
 abbrev pub spent : Left → ℕ → ℕ → Left

@@ -14,6 +14,7 @@ use Rattle.registers.specs.Registers.{inRange}
 use Rattle.status.specs.Status.{statusOne, statusTwo}
 use Rattle.operations.specs.HostOperations.{started, pointed, conditioned, resume, cleared, requested, penLit, pressed, groupCleared, interrupted, idled, hitsRead}
 use Rattle.host.specs.declared.Operated.{Operated}
+use Rattle.host.specs.declared.Numbers.{Numbers}
 use Rattle.host.specs.declared.Reply.{Reply}
 use Rattle.host.specs.declared.Reply.the-variants.{Refused, Done}
 
@@ -83,15 +84,9 @@ operated r operation operand =
 
 -- this paper's numbers for each answer: ending, word, beats and points (01, Refused calls: a refusal has word 0, beats 0, points 0; an accepted operation
 -- answers ending 0, beats 0, points 0)
-pub record Numbers : Type 0 where
-  pub ending : ℕ
-  pub word : ℕ
-  pub beats : ℕ
-  pub points : ℕ
-
-abbrev pub numbers : Reply → Numbers
-numbers (Refused number) = record { ending = number; word = 0; beats = 0; points = 0 }
-numbers (Done word) = record { ending = 0; word = word; beats = 0; points = 0 }
+abbrev pub numbered : Reply → Numbers
+numbered (Refused number) = record { ending = number; word = 0; beats = 0; points = 0 }
+numbered (Done word) = record { ending = 0; word = word; beats = 0; points = 0 }
 
 -- no accepted call leaves registers that 4 refuses (01, Registers): whatever operation and operand arrive, registers in range stay in range
 abbrev pub KeepsInRange : Type 0

@@ -1,6 +1,6 @@
 // Host operations: any registers, any operation number and any operand, refused or done. Memory and points are not among the parameters.
 ghost use mathlib.Core.Path.{_≡_};
-ghost use Rattle.host.specs.HostOperations.{known, limit, withMotion, registersAfter, reading, refused, done, operated, KeepsInRange};
+ghost use Rattle.host.specs.HostOperations.{known, limit, withMotion, registersAfter, reading, refused, done, operated, numbered, KeepsInRange};
 use addresses::DisplayAddress;
 use addresses::PushdownPointer;
 use registers::Base;
@@ -16,6 +16,14 @@ pub enum Reply {
 pub struct Operated {
     pub registers: Registers,
     pub reply: Reply,
+}
+
+// This paper's numbers for a reply. An operation makes no beat and lights no point.
+pub struct Numbers {
+    pub ending: u8,
+    pub word: u16,
+    pub beats: u32,
+    pub points: usize,
 }
 
 // Whether there is an operation of this number.
@@ -127,6 +135,26 @@ pub fn operate(r: Registers, operation: u32, operand: u32) -> Operated
         }
     } else {
         refused(r, 4)
+    }
+}
+
+// The numbers that document 01 gives a reply.
+pub fn numbered(reply: Reply) -> Numbers
+    ensures { λ r. ⌜ r ≡ numbered reply ⌝ }
+{
+    match reply {
+        Reply::Refused(number) => Numbers {
+            ending: number,
+            word: 0,
+            beats: 0,
+            points: 0,
+        },
+        Reply::Done(word) => Numbers {
+            ending: 0,
+            word,
+            beats: 0,
+            points: 0,
+        },
     }
 }
 

@@ -19,6 +19,7 @@ use Rattle.beats.specs.declared.Stores.{Stores}
 use Rattle.beats.specs.declared.Stores.the-variants.{Nowhere, Two}
 use Rattle.beats.specs.declared.Resting.{Resting}
 use Rattle.beats.specs.declared.Resting.the-variants.{External, Unusable}
+use Rattle.beats.specs.declared.Why.{Why}
 use Rattle.beats.specs.declared.Why.the-variants.{Fetch, Store, Wide, Full}
 use Rattle.beats.specs.OneTurn.{Turn, Fails, Rests, Does, points, turn}
 use Rattle.machine.specs.declared.Ending.{Ending}
@@ -28,6 +29,7 @@ use Rattle.machine.specs.declared.Halt.the-variants.{Goes, Ends}
 use Rattle.machine.specs.declared.Answer.{Answer}
 use Rattle.machine.specs.declared.Answer.the-variants.{Refused, Ended}
 use Rattle.machine.specs.declared.Ran.{Ran}
+use Rattle.machine.specs.declared.Numbers.{Numbers}
 
 -- THE RUN
 
@@ -133,6 +135,12 @@ KeepsInRange =
 
 -- THIS PAPER'S NUMBERS for each answer: ending, word, beats and points. A run's word is 0
 
+unfoldable pub whyNumber : Why → ℕ
+whyNumber (Fetch a) = 16
+whyNumber (Store a) = 16
+whyNumber (Wide a) = 17
+whyNumber Full = 18
+
 unfoldable pub endingNumber : Ending → ℕ
 endingNumber NotRunning = 10
 endingNumber BudgetSpent = 11
@@ -140,17 +148,8 @@ endingNumber InternalStop = 12
 endingNumber ExternalStop = 13
 endingNumber EdgeStop = 14
 endingNumber UnusableMode = 15
-endingNumber (Failed (Fetch a)) = 16
-endingNumber (Failed (Store a)) = 16
-endingNumber (Failed (Wide a)) = 17
-endingNumber (Failed Full) = 18
+endingNumber (Failed why) = whyNumber why
 
-pub record Numbers : Type 0 where
-  pub ending : ℕ
-  pub word : ℕ
-  pub beats : ℕ
-  pub points : ℕ
-
-abbrev pub numbers : Answer → Numbers
-numbers (Refused number) = record { ending = number; word = 0; beats = 0; points = 0 }
-numbers (Ended ending beats points) = record { ending = endingNumber ending; word = 0; beats = beats; points = points }
+abbrev pub numbered : Answer → Numbers
+numbered (Refused number) = record { ending = number; word = 0; beats = 0; points = 0 }
+numbered (Ended ending beats points) = record { ending = endingNumber ending; word = 0; beats = beats; points = points }

@@ -7,7 +7,7 @@ ghost use Rattle.registers.specs.Registers.{Good};
 ghost use Rattle.loan.specs.Loan.{Fair};
 ghost use Rattle.beats.specs.OneTurn.{points as pointsOf};
 ghost use Rattle.beats.proofs.Fine.{Inside};
-ghost use Rattle.machine.specs.Runs.{stored, rested, restEnding, halted, refusedRun, run as runOf, left, leaves, entered, call, KeepsInRange};
+ghost use Rattle.machine.specs.Runs.{stored, rested, restEnding, halted, refusedRun, run as runOf, left, leaves, entered, call, whyNumber, endingNumber, numbered, KeepsInRange};
 use beats::Resting;
 use beats::Stores;
 use beats::Turn;
@@ -44,6 +44,14 @@ pub enum Answer {
 pub struct Ran {
     pub registers: Registers,
     pub answer: Answer,
+}
+
+// This paper's numbers for an answer. A run's word is 0.
+pub struct Numbers {
+    pub ending: u8,
+    pub word: u16,
+    pub beats: u32,
+    pub points: usize,
 }
 
 fn store(stores: Stores, memory: &mut [u16])
@@ -236,6 +244,51 @@ pub fn run(r: Registers, l: Loan, memory: &mut [u16], points: &mut [u32], budget
         }
     } else {
         refused(r, 1)
+    }
+}
+
+fn why_number(why: Why) -> u8
+    ensures { λ r. ⌜ r ≡ whyNumber why ⌝ }
+{
+    match why {
+        Why::Fetch(_) => 16,
+        Why::Store(_) => 16,
+        Why::Wide(_) => 17,
+        Why::Full => 18,
+    }
+}
+
+fn ending_number(ending: Ending) -> u8
+    ensures { λ r. ⌜ r ≡ endingNumber ending ⌝ }
+{
+    match ending {
+        Ending::NotRunning => 10,
+        Ending::BudgetSpent => 11,
+        Ending::InternalStop => 12,
+        Ending::ExternalStop => 13,
+        Ending::EdgeStop => 14,
+        Ending::UnusableMode => 15,
+        Ending::Failed(why) => why_number(why),
+    }
+}
+
+// The numbers that document 01 gives an answer.
+pub fn numbered(answer: Answer) -> Numbers
+    ensures { λ r. ⌜ r ≡ numbered answer ⌝ }
+{
+    match answer {
+        Answer::Refused(number) => Numbers {
+            ending: number,
+            word: 0,
+            beats: 0,
+            points: 0,
+        },
+        Answer::Ended(ending, beats, points) => Numbers {
+            ending: ending_number(ending),
+            word: 0,
+            beats,
+            points,
+        },
     }
 }
 

@@ -1,5 +1,5 @@
 -- Section 'Sheet of checked examples' of 01: the rows P1 to P11, each with what 01 says comes out. Assumes nothing.
-use Prim.Native.Nat.{ℕ, zero, suc, _+_}
+use Prim.Native.Nat.{ℕ, zero, suc}
 use mathlib.Core.Bool.{Bool, true, false, not, _&&_}
 use mathlib.Core.List.{List, [], _∷_}
 use lib.Dec.{eqb}
@@ -8,7 +8,6 @@ use Rattle.addresses.specs.Addresses.{address, pointer}
 use Rattle.paper.specs.DataWords.{offset}
 use Rattle.registers.specs.declared.Base.{Base}
 use Rattle.registers.specs.declared.Motion.the-variants.{Nothing}
-use Rattle.registers.specs.declared.Registers.{Registers}
 use Rattle.registers.specs.Registers.{freshBase}
 use Rattle.registers.specs.With.{withX, withY, withConditions, withAddress, withPointer, withScale, withIntensity, withMode, withDatastate, withRunning, withPen}
 use Rattle.loan.specs.Loan.{all}
@@ -79,7 +78,7 @@ sheet =
     (runs 2 (moving 1023 0 0) 0 (0o5050 ∷ [])
     (λ f. eqb (f .registers .base .x) 0 && f .registers .base .horizontal && eqb (length (f .lit)) 0))
     ∷ P 6
-    (runs 2 (moving 1023 0o0040 0) 0 (0o5050 ∷ [])
+    (runs 2 (moving 1023 0o0020 0) 0 (0o5050 ∷ [])
     (λ f. eqb (f .registers .base .x) 1024 && not (f .registers .base .horizontal) && eqb (length (f .lit)) 0))
     ∷ P 7
     (runs 2 (moving 1020 0 3) 0 (0o5050 ∷ [])

@@ -1,0 +1,13 @@
+-- `host::numbered` meets its promise: each arm is a clause of the definition. Assumes nothing.
+use borrow.Author.Needs.{needs}
+use Rattle.host.proofs.numbered.Statement.{statement}
+use Rattle.host.proofs.numbered.Tie as tie
+
+pub numbered-spec : {M : Type 1} → statement M
+numbered-spec =
+    tie.close
+    (tie.spec
+    (λ c. search needs)
+    (λ c. search needs)
+    (λ c. rw (c .before .reply .given .1))
+    (λ c. rw (c .before .reply2 .given .1)))

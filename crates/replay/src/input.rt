@@ -1,0 +1,146 @@
+// Standard input, read in blocks and taken apart byte by byte: no line is ever held, so a line may have any length.
+use crate::Block;
+use crate::SIZE;
+
+// Where the reading stands in the block, `end` being how much of the block is filled, and what it read last.
+pub struct Reader {
+    pub at: usize,
+    pub end: usize,
+    // The last byte, 0 once the input is over.
+    pub byte: u8,
+    pub over: bool,
+    // The last number.
+    pub number: u64,
+    // Whether the line is a case so far.
+    pub valid: bool,
+}
+
+// A reader before the first byte.
+pub fn start() -> Reader {
+    Reader {
+        at: 0,
+        end: 0,
+        byte: 0,
+        over: false,
+        number: 0,
+        valid: true,
+    }
+}
+
+// A line that is no case. Nothing more is read of it but by `skip`, so that its newline is not passed unseen.
+pub fn failed(r: Reader) -> Reader {
+    let mut q = r;
+    q.number = 0;
+    q.valid = false;
+    q
+}
+
+// Fills the block where it is used up. The end of the input stays the end.
+fn filled(r: Reader, block: &mut Block) -> Reader {
+    let mut q = r;
+    if (r.at == r.end) & !r.over {
+        let got = libc::read(libc::STDIN_FILENO, block);
+        q.at = 0;
+        q.end = io::count(got, block);
+    }
+    q
+}
+
+// Reads the next byte.
+fn next(r: Reader, block: &mut Block) -> Reader {
+    let mut q = filled(r, block);
+    if q.at == q.end {
+        q.byte = 0;
+        q.over = true;
+    } else {
+        // Never 4,096 or more; the remainder spares every caller to say so.
+        let at = q.at % SIZE;
+        q.byte = block[at];
+        q.at = at + 1;
+    }
+    q
+}
+
+// Reads a line's first byte.
+pub fn first(r: Reader, block: &mut Block) -> Reader {
+    let mut q = next(r, block);
+    q.valid = true;
+    q
+}
+
+// Reads the byte that has to come next.
+pub fn expect(r: Reader, block: &mut Block, byte: u8) -> Reader {
+    if !r.valid {
+        return r;
+    }
+    let q = next(r, block);
+    if q.byte == byte { q } else { failed(q) }
+}
+
+// A line's last newline was read: only now is the line a case.
+pub fn ended(r: Reader) -> Reader {
+    if r.byte == b'\n' { r } else { failed(r) }
+}
+
+// Reads on to the line's newline, or to the end of the input.
+pub fn skip(r: Reader, block: &mut Block) -> Reader {
+    let mut q = r;
+    let mut turns = u64::MAX;
+    while turns > 0 && q.byte != b'\n' && !q.over {
+        turns -= 1;
+        q = next(q, block);
+    }
+    q
+}
+
+fn is_digit(byte: u8) -> bool {
+    (b'0' <= byte) & (byte <= b'9')
+}
+
+// A number with one more digit, whose value is its low four bits. Above 32 bits it grows no more: it fits no field.
+fn grown(number: u64, byte: u8) -> u64 {
+    if number < 4294967296 {
+        number * 10 + (byte % 16) as u64
+    } else {
+        number
+    }
+}
+
+// Reads digits, of which the first was read last, up to the byte that ends them.
+fn digits(r: Reader, block: &mut Block) -> Reader {
+    let mut q = r;
+    let mut number = 0;
+    let mut turns = u64::MAX;
+    while turns > 0 && is_digit(q.byte) {
+        turns -= 1;
+        number = grown(number, q.byte);
+        q = next(q, block);
+    }
+    q.number = number;
+    q
+}
+
+// Reads a number of at most `largest`, where the space before it was read last.
+pub fn number(r: Reader, block: &mut Block, largest: u64) -> Reader {
+    if !(r.valid & (r.byte == b' ')) {
+        return failed(r);
+    }
+    let q = next(r, block);
+    if !is_digit(q.byte) {
+        return failed(q);
+    }
+    let p = digits(q, block);
+    if p.number <= largest { p } else { failed(p) }
+}
+
+// Reads a number for each of `largest`.
+pub fn numbers(r: Reader, block: &mut Block, largest: &[u64], values: &mut [u64]) -> Reader {
+    let mut q = r;
+    let mut i = 0;
+    while i < largest.len() && i < values.len() {
+        q = number(q, block, largest[i]);
+        values[i] = q.number;
+        i += 1;
+    }
+    q
+}

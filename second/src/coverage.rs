@@ -1,0 +1,593 @@
+//! How often a stream of cases reaches each rule, seen from outside by runs of one beat each.
+
+use std::collections::HashMap;
+use std::fmt;
+
+use crate::data_words::{x_dimension, y_dimension};
+use crate::generate::{next_case, Chance};
+use crate::host_operations::operate;
+use crate::refusals_and_endings::{Answer, Ending, Loan, MEMORY_LENGTH};
+use crate::registers::{address_after, pointer_after, Motion, Registers, Side, State};
+use crate::replay::{Case, RunCase};
+use crate::turn::run;
+use crate::words::{bit, field, GREATEST_WORD};
+
+/// The rows of the report, in the order in which they are printed.
+pub struct Coverage {
+    rows: Vec<(String, u64)>,
+    places: HashMap<String, usize>,
+}
+
+impl Coverage {
+    /// Every row from the start, so that one never reached shows as 0.
+    fn new() -> Coverage {
+        let mut coverage = Coverage {
+            rows: Vec::new(),
+            places: HashMap::new(),
+        };
+        for name in row_names() {
+            coverage.places.insert(name.clone(), coverage.rows.len());
+            coverage.rows.push((name, 0));
+        }
+        coverage
+    }
+
+    fn count(&mut self, name: &str) {
+        if let Some(row) = self
+            .places
+            .get(name)
+            .and_then(|&place| self.rows.get_mut(place))
+        {
+            row.1 += 1;
+        }
+    }
+
+    fn count_if(&mut self, reached: bool, name: &str) {
+        if reached {
+            self.count(name);
+        }
+    }
+
+    /// The names of the rows that were never reached, apart from those that should not be.
+    pub fn never_reached(&self) -> Vec<&str> {
+        let missing = self
+            .rows
+            .iter()
+            .filter(|row| row.1 == 0 && row.0 != STEPWISE_DIFFERS);
+        missing.map(|row| row.0.as_str()).collect()
+    }
+
+    pub fn stepwise_differs(&self) -> bool {
+        self.rows
+            .iter()
+            .any(|row| row.0 == STEPWISE_DIFFERS && row.1 > 0)
+    }
+}
+
+impl fmt::Display for Coverage {
+    fn fmt(&self, formatter: &mut fmt::Formatter) -> fmt::Result {
+        for (name, count) in &self.rows {
+            writeln!(formatter, "{count:>9}  {name}")?;
+        }
+        Ok(())
+    }
+}
+
+const STEPWISE_DIFFERS: &str = "run differs from its beats one by one (should be 0)";
+
+const OPERATIONS: [u32; 19] = [
+    1, 2, 3, 4, 5, 6, 7, 8, 9, 10, 11, 12, 20, 21, 22, 23, 24, 25, 26,
+];
+
+const CONTROL_WORDS: [&str; 13] = [
+    "0", "1", "2 jump", "2 push", "3", "4", "5", "60", "61", "62", "63", "64-67", "7",
+];
+
+const LOANS: [&str; 6] = [
+    "all",
+    "file empty",
+    "list empty",
+    "both empty",
+    "tiny",
+    "overlapping",
+];
+
+fn row_names() -> Vec<String> {
+    let mut names: Vec<String> = vec!["cases".into(), "operations".into(), "runs".into()];
+    for refusal in 4..=6 {
+        names.push(format!("operation refused {refusal}"));
+    }
+    for refusal in 1..=4 {
+        names.push(format!("run refused {refusal}"));
+    }
+    for ending in 10..=18 {
+        names.push(format!("ending {ending}"));
+    }
+    names.push("beats".into());
+    for kind in CONTROL_WORDS {
+        names.push(format!("control word {kind}"));
+    }
+    for kind in ["4", "5", "60", "61", "62", "7"] {
+        names.push(format!("skip taken by control word {kind}"));
+        names.push(format!("no skip by control word {kind}"));
+    }
+    for mode in [0, 1, 2, 3, 4, 6] {
+        names.push(format!("data command, mode {mode}"));
+        names.push(format!("data command, mode {mode}, escaped at once"));
+    }
+    names.retain(|name| !name.ends_with("mode 1, escaped at once"));
+    for mode in [2, 3, 4] {
+        names.push(format!("move of a line, mode {mode}"));
+        names.push(format!("command ended by a move of a line, mode {mode}"));
+    }
+    names.retain(|name| name != "command ended by a move of a line, mode 3");
+    names.push("line moved by both axes at once".into());
+    names.push("vector continue starting over".into());
+    names.push("vector continue, last still beat".into());
+    for side in ["left", "right"] {
+        names.push(format!("move of bytes, {side}"));
+        names.push(format!("escape by a {side} byte"));
+    }
+    names.push("left byte's escape dropping the right".into());
+    for axis in ["x", "y"] {
+        for dimension in 10..=13 {
+            for what in ["stopping", "ignored by bit 9"] {
+                names.push(format!("edge of {axis}, {dimension} bits, {what}"));
+            }
+        }
+    }
+    names.push("both axes violated in one beat".into());
+    names.push("violation in a graphplot".into());
+    names.push("edge stop with the motion unfinished".into());
+    names.push("edge stop with an escape".into());
+    for pointer in ["7776", "7777", "0"] {
+        names.push(format!("push with the pointer at {pointer}o"));
+        names.push(format!("pop with the pointer at {pointer}o"));
+    }
+    names.retain(|name| name != "pop with the pointer at 7776o");
+    names.push("pop with the pointer at 1o".into());
+    names.push("push storing over its own words".into());
+    names.push("pop entering data state".into());
+    names.push("display address counted over 77777o".into());
+    names.push("second word at 0 after 77777o".into());
+    for kind in [
+        "first fetch",
+        "second word",
+        "pop's list",
+        "push's first write",
+        "push's second write",
+    ] {
+        names.push(format!("fenced at {kind}"));
+    }
+    names.push("word above 4,095 at the display address".into());
+    names.push("word above 4,095 at a later fetch".into());
+    for kind in LOANS {
+        names.push(format!("loan {kind}"));
+    }
+    for room in [0, 1] {
+        names.push(format!("room {room}"));
+    }
+    names.push("point lit".into());
+    names.push("point lit by condition bit 8 alone".into());
+    names.push("default word above 4,095".into());
+    names.push("pen hold ended".into());
+    names.push("pen hold kept by a move beat".into());
+    for place in [8, 9] {
+        for value in ["off", "on"] {
+            names.push(format!("beat with condition bit {place} {value}"));
+        }
+    }
+    for operation in OPERATIONS {
+        names.push(format!("operation {operation} accepted"));
+    }
+    for what in [
+        "resume of a stopped display",
+        "resume with hold going on",
+        "resume with the pen off for good",
+        "pen light stopping the display",
+        "status 1 with bit 8 on",
+        "status 2 with the byte bit on",
+    ] {
+        names.push(what.into());
+    }
+    names.push(STEPWISE_DIFFERS.into());
+    names
+}
+
+/// The coverage of the first `count` cases of a seed.
+pub fn coverage(seed: u64, count: u64) -> Coverage {
+    let mut coverage = Coverage::new();
+    let mut chance = Chance::new(seed);
+    for _ in 0..count {
+        coverage.count("cases");
+        match next_case(&mut chance) {
+            Case::Operation {
+                registers,
+                operation,
+                operand,
+            } => {
+                operation_reached(&mut coverage, registers, operation, operand);
+            }
+            Case::Run(case) => run_reached(&mut coverage, &case),
+        }
+    }
+    coverage
+}
+
+fn operation_reached(coverage: &mut Coverage, before: Registers, operation: u32, operand: u32) {
+    coverage.count("operations");
+    let (after, ending, word) = operate(before, operation, operand);
+    if ending != Ending::Done {
+        coverage.count(&format!("operation refused {}", ending.number()));
+        return;
+    }
+    coverage.count(&format!("operation {operation} accepted"));
+    match operation {
+        4 if !before.running => {
+            coverage.count("resume of a stopped display");
+            let pen = before.pen_flag && before.condition(2);
+            coverage.count_if(
+                pen && !before.pen_hold && after.pen_hold,
+                "resume with hold going on",
+            );
+            coverage.count_if(
+                pen && before.condition(3),
+                "resume with the pen off for good",
+            );
+        }
+        7 => coverage.count_if(
+            before.running && !after.running,
+            "pen light stopping the display",
+        ),
+        24 => coverage.count_if(bit(word, 8), "status 1 with bit 8 on"),
+        25 => coverage.count_if(bit(word, 0), "status 2 with the byte bit on"),
+        _ => {}
+    }
+}
+
+fn run_reached(coverage: &mut Coverage, case: &RunCase) {
+    coverage.count("runs");
+    let mut registers = case.registers;
+    let mut memory = case.memory();
+    let mut points = vec![0; case.room];
+    let answer = run(
+        &mut registers,
+        &mut memory,
+        case.loan,
+        case.budget,
+        &mut points,
+    );
+    if answer.ending.number() < 10 {
+        coverage.count(&format!("run refused {}", answer.ending.number()));
+        return;
+    }
+    coverage.count(&format!("ending {}", answer.ending.number()));
+    loan_reached(coverage, case.loan);
+    coverage.count_if(case.room == 0, "room 0");
+    coverage.count_if(case.room == 1, "room 1");
+    coverage.count_if(case.default > GREATEST_WORD, "default word above 4,095");
+
+    let mut stepwise = case.registers;
+    let mut stepwise_memory = case.memory();
+    let mut stepwise_points = vec![0; case.room];
+    let stepwise_answer = beat_by_beat(
+        coverage,
+        case,
+        &mut stepwise,
+        &mut stepwise_memory,
+        &mut stepwise_points,
+    );
+    let same = stepwise_answer == answer
+        && stepwise == registers
+        && stepwise_memory == memory
+        && stepwise_points == points;
+    coverage.count_if(!same, STEPWISE_DIFFERS);
+}
+
+fn loan_reached(coverage: &mut Coverage, loan: Loan) {
+    let words = |range: crate::LoanRange| range.high - range.low;
+    let (file, list) = (words(loan.file), words(loan.list));
+    coverage.count_if(loan == Loan::all(), "loan all");
+    coverage.count_if(file == 0, "loan file empty");
+    coverage.count_if(list == 0, "loan list empty");
+    coverage.count_if(file == 0 && list == 0, "loan both empty");
+    coverage.count_if(file.max(list) > 0 && file.max(list) <= 3, "loan tiny");
+    let shared_low = loan.file.low.max(loan.list.low);
+    let shared_high = loan.file.high.min(loan.list.high);
+    let overlapping = shared_low < shared_high && loan != Loan::all();
+    coverage.count_if(overlapping, "loan overlapping");
+}
+
+/// The same run again, each beat with a budget of its own, so that each can be looked at.
+fn beat_by_beat(
+    coverage: &mut Coverage,
+    case: &RunCase,
+    registers: &mut Registers,
+    memory: &mut [u16],
+    points: &mut [u32],
+) -> Answer {
+    let mut beats = 0;
+    let mut lit = 0;
+    while beats < case.budget {
+        let before = *registers;
+        let words = [
+            peek(memory, before.display_address),
+            peek(memory, address_after(before.display_address, 1)),
+        ];
+        let rest = &mut points[lit as usize..];
+        let answer = run(registers, memory, case.loan, 1, rest);
+        beats += answer.beats;
+        lit += answer.points;
+        if answer.beats == 1 {
+            beat_reached(coverage, &before, registers, words, answer);
+        }
+        if answer.ending != Ending::BudgetSpent {
+            if answer.beats == 0 {
+                barred_touch_reached(coverage, case.loan, &before, memory, answer.ending);
+            }
+            return Answer {
+                ending: answer.ending,
+                beats,
+                points: lit,
+            };
+        }
+    }
+    let ending = if registers.running {
+        Ending::BudgetSpent
+    } else {
+        Ending::NotRunning
+    };
+    Answer {
+        ending,
+        beats,
+        points: lit,
+    }
+}
+
+/// Looking is the report's own: no run looks at a word that its loan does not allow.
+fn peek(memory: &[u16], address: u16) -> u16 {
+    memory
+        .get(usize::from(address) % MEMORY_LENGTH)
+        .copied()
+        .unwrap_or(0)
+}
+
+fn beat_reached(
+    coverage: &mut Coverage,
+    before: &Registers,
+    after: &Registers,
+    words: [u16; 2],
+    answer: Answer,
+) {
+    coverage.count("beats");
+    coverage.count_if(before.pen_hold && !after.pen_hold, "pen hold ended");
+    coverage.count_if(
+        before.pen_hold && after.pen_hold,
+        "pen hold kept by a move beat",
+    );
+    for place in [8, 9] {
+        let value = if before.condition(place) { "on" } else { "off" };
+        coverage.count(&format!("beat with condition bit {place} {value}"));
+    }
+    let asked = match (before.motion, before.state) {
+        (Motion::Nothing, State::Control) => {
+            control_word_reached(coverage, before, after, words);
+            true
+        }
+        (Motion::Nothing, State::Data) => {
+            data_command_reached(coverage, before, after, words);
+            before.mode == 6 || bit(words[0], 0)
+        }
+        (Motion::Line(line), _) => {
+            line_move_reached(coverage, before, after);
+            line.lit
+        }
+        (Motion::Bytes(bytes), _) => {
+            byte_move_reached(coverage, before, after);
+            bytes.byte() >= 0o40
+        }
+    };
+    if answer.points == 1 {
+        coverage.count("point lit");
+        coverage.count_if(!asked, "point lit by condition bit 8 alone");
+    }
+    if before.motion == Motion::Nothing && after.display_address < before.display_address {
+        let counted = before.state == State::Data || !matches!(field(words[0], 0, 2), 2 | 3);
+        coverage.count_if(counted, "display address counted over 77777o");
+    }
+    let moves = before.motion != Motion::Nothing || before.state == State::Data && before.mode == 6;
+    if moves {
+        edges_reached(coverage, before, after, words[0]);
+    }
+}
+
+fn control_word_reached(
+    coverage: &mut Coverage,
+    before: &Registers,
+    after: &Registers,
+    words: [u16; 2],
+) {
+    let word = words[0];
+    let kind = match (field(word, 0, 2), field(word, 3, 5)) {
+        (0, _) => "0",
+        (1, _) => "1",
+        (2, _) if bit(word, 8) => "2 push",
+        (2, _) => "2 jump",
+        (3, _) => "3",
+        (4, _) => "4",
+        (5, _) => "5",
+        (6, 0) => "60",
+        (6, 1) => "61",
+        (6, 2) => "62",
+        (6, 3) => "63",
+        (6, _) => "64-67",
+        _ => "7",
+    };
+    coverage.count(&format!("control word {kind}"));
+    let skipped = after.display_address == address_after(before.display_address, 3);
+    let taken = if skipped { "skip taken" } else { "no skip" };
+    coverage.count(&format!("{taken} by control word {kind}"));
+    let pointer = before.pushdown_pointer;
+    match kind {
+        "2 push" => {
+            coverage.count(&format!("push with the pointer at {pointer:o}o"));
+            let own = [
+                before.display_address,
+                address_after(before.display_address, 1),
+            ];
+            let over = own.contains(&pointer) || own.contains(&pointer_after(pointer, 1));
+            coverage.count_if(over, "push storing over its own words");
+        }
+        "3" => {
+            coverage.count(&format!("pop with the pointer at {pointer:o}o"));
+            coverage.count_if(bit(word, 11), "pop entering data state");
+        }
+        _ => {}
+    }
+    let two_words = kind == "2 push" || kind == "2 jump";
+    let at_end = before.display_address == 0o77777;
+    coverage.count_if(two_words && at_end, "second word at 0 after 77777o");
+}
+
+fn data_command_reached(
+    coverage: &mut Coverage,
+    before: &Registers,
+    after: &Registers,
+    words: [u16; 2],
+) {
+    let mode = before.mode;
+    coverage.count(&format!("data command, mode {mode}"));
+    if after.state == State::Control {
+        coverage.count(&format!("data command, mode {mode}, escaped at once"));
+    }
+    let at_end = before.display_address == 0o77777 && matches!(mode, 0 | 2 | 3);
+    coverage.count_if(
+        at_end && words[1] <= GREATEST_WORD,
+        "second word at 0 after 77777o",
+    );
+}
+
+fn line_move_reached(coverage: &mut Coverage, before: &Registers, after: &Registers) {
+    let mode = before.mode;
+    let still = before.x == after.x && before.y == after.y;
+    if mode == 3 && still {
+        coverage.count("vector continue, last still beat");
+        return;
+    }
+    coverage.count(&format!("move of a line, mode {mode}"));
+    coverage.count_if(
+        before.x != after.x && before.y != after.y,
+        "line moved by both axes at once",
+    );
+    match after.motion {
+        Motion::Nothing => {
+            coverage.count(&format!("command ended by a move of a line, mode {mode}"))
+        }
+        Motion::Line(line) => {
+            coverage.count_if(mode == 3 && line.done == 0, "vector continue starting over");
+        }
+        Motion::Bytes(_) => {}
+    }
+}
+
+fn byte_move_reached(coverage: &mut Coverage, before: &Registers, after: &Registers) {
+    let Motion::Bytes(bytes) = before.motion else {
+        return;
+    };
+    let side = if bytes.side == Side::Left {
+        "left"
+    } else {
+        "right"
+    };
+    coverage.count(&format!("move of bytes, {side}"));
+    if after.state == State::Control {
+        coverage.count(&format!("escape by a {side} byte"));
+        coverage.count_if(
+            bytes.side == Side::Left,
+            "left byte's escape dropping the right",
+        );
+    }
+}
+
+/// No move is longer than 8, so a coordinate that changed by more has passed an end.
+fn edges_reached(coverage: &mut Coverage, before: &Registers, after: &Registers, word: u16) {
+    let graphplot = before.motion == Motion::Nothing;
+    let y_moves = !graphplot || bit(word, 1);
+    let x_moves = !graphplot || !bit(word, 1);
+    let y_violated = y_moves && before.y.abs_diff(after.y) > 8;
+    let x_violated = x_moves && before.x.abs_diff(after.x) > 8;
+    let what = if before.condition(9) {
+        "ignored by bit 9"
+    } else {
+        "stopping"
+    };
+    if y_violated {
+        let dimension = y_dimension(before.conditions);
+        coverage.count(&format!("edge of y, {dimension} bits, {what}"));
+    }
+    if x_violated {
+        let dimension = x_dimension(before.conditions);
+        coverage.count(&format!("edge of x, {dimension} bits, {what}"));
+    }
+    coverage.count_if(y_violated && x_violated, "both axes violated in one beat");
+    let violated = y_violated || x_violated;
+    coverage.count_if(violated && graphplot, "violation in a graphplot");
+    if violated && !after.running {
+        let unfinished = after.motion != Motion::Nothing;
+        coverage.count_if(unfinished, "edge stop with the motion unfinished");
+        coverage.count_if(after.state == State::Control, "edge stop with an escape");
+    }
+}
+
+/// Which touch ended the run with 16 or 17. The report may look at all words.
+fn barred_touch_reached(
+    coverage: &mut Coverage,
+    loan: Loan,
+    before: &Registers,
+    memory: &[u16],
+    ending: Ending,
+) {
+    let first_place = before.display_address;
+    let second_place = address_after(first_place, 1);
+    let first = peek(memory, first_place);
+    match ending {
+        Ending::WordTooWide => {
+            let name = if first > GREATEST_WORD {
+                "word above 4,095 at the display address"
+            } else {
+                "word above 4,095 at a later fetch"
+            };
+            coverage.count(name);
+        }
+        Ending::OutsideLoan => {
+            let control = before.state == State::Control;
+            let name = if !loan.allows_fetch(first_place) {
+                "fenced at first fetch"
+            } else if control && field(first, 0, 2) == 3 {
+                "fenced at pop's list"
+            } else if !loan.allows_fetch(second_place) {
+                "fenced at second word"
+            } else if !loan.allows_write(before.pushdown_pointer) {
+                "fenced at push's first write"
+            } else if !loan.allows_write(pointer_after(before.pushdown_pointer, 1)) {
+                "fenced at push's second write"
+            } else {
+                ""
+            };
+            coverage.count(name);
+        }
+        _ => {}
+    }
+}
+
+#[cfg(test)]
+mod tests {
+    use super::*;
+
+    #[test]
+    fn a_few_thousand_cases_reach_every_row() {
+        let coverage = coverage(1, 6_000);
+        assert_eq!(coverage.never_reached(), Vec::<&str>::new());
+        assert!(!coverage.stepwise_differs());
+    }
+}

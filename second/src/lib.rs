@@ -1,0 +1,23 @@
+//! A second simulator of the DEC 338 display, written from document 01 and the manual alone.
+
+#![forbid(unsafe_code)]
+
+// The rules, a file to a section of document 01. They are private because each counts on the tests
+// that come before it; the calls `operate` and `run` make those tests and take any input.
+mod control_words;
+mod data_words;
+mod host_operations;
+mod refusals_and_endings;
+mod registers;
+mod turn;
+mod words;
+
+// What stands around the rules.
+pub mod coverage;
+pub mod generate;
+pub mod replay;
+
+pub use host_operations::operate;
+pub use refusals_and_endings::{Answer, Ending, Loan, LoanRange};
+pub use registers::{Bytes, Line, Motion, Registers, Side, State};
+pub use turn::run;

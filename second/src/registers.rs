@@ -1,0 +1,480 @@
+//! The registers of the display, their ranges, and the rules of motion that refusal 4 asks.
+
+use crate::words::{bit, field, GREATEST_WORD};
+
+/// 01, registers: "state (control or data)".
+#[derive(Clone, Copy, Debug, PartialEq, Eq)]
+pub enum State {
+    Control,
+    Data,
+}
+
+/// Which byte of an increment word is being executed.
+#[derive(Clone, Copy, Debug, PartialEq, Eq)]
+pub enum Side {
+    Left,
+    Right,
+}
+
+/// 01, registers: "a line (two signs, magnitudes up to 1,023, n = the larger, at least 1,
+/// done k below n, lit, escape)".
+#[derive(Clone, Copy, Debug, PartialEq, Eq)]
+pub struct Line {
+    pub y_minus: bool,
+    pub x_minus: bool,
+    pub y_magnitude: u16,
+    pub x_magnitude: u16,
+    /// 01 calls it n.
+    pub moves: u16,
+    /// 01 calls it k.
+    pub done: u16,
+    pub lit: bool,
+    pub escape: bool,
+}
+
+/// 01, registers: "bytes (word, left or right, 1 to 3 moves left ...)".
+#[derive(Clone, Copy, Debug, PartialEq, Eq)]
+pub struct Bytes {
+    pub word: u16,
+    pub side: Side,
+    pub moves_left: u16,
+}
+
+/// 01, registers: "Motion is nothing; a line ...; or bytes ...".
+#[derive(Clone, Copy, Debug, PartialEq, Eq)]
+pub enum Motion {
+    Nothing,
+    Line(Line),
+    Bytes(Bytes),
+}
+
+/// 01, registers. The numbers are wider than the display's own, so that values out of range
+/// can be handed in and refused rather than be impossible to say.
+#[derive(Clone, Copy, Debug, PartialEq, Eq)]
+pub struct Registers {
+    /// 15 bits; the upper three are the manual's break field, the lower twelve its DAC.
+    pub display_address: u16,
+    /// 12 bits; it only ever means field 0.
+    pub pushdown_pointer: u16,
+    pub x: u16,
+    pub y: u16,
+    pub state: State,
+    pub mode: u8,
+    pub scale: u8,
+    pub intensity: u8,
+    pub pen_enable: bool,
+    pub pen_hold: bool,
+    /// The manual's LPSI.
+    pub pen_sense: bool,
+    pub blink: bool,
+    pub idle: bool,
+    /// 12 bits; button 0 is bit 0, the leftmost.
+    pub buttons: u16,
+    pub hit_bank_1: bool,
+    pub hit_bank_2: bool,
+    pub internal_stop_flag: bool,
+    pub external_stop_flag: bool,
+    pub vertical_edge_flag: bool,
+    pub horizontal_edge_flag: bool,
+    pub pen_flag: bool,
+    pub manual_interrupt_flag: bool,
+    /// The 12 initial-condition bits, in the layout of manual 2.3.2.2.
+    pub conditions: u16,
+    pub running: bool,
+    pub stop_request: bool,
+    pub motion: Motion,
+}
+
+/// 01, registers: "counting wraps from 77777o to 0".
+pub const ADDRESSES: u16 = 32_768;
+/// 01, registers: "the pointer counts modulo 4,096".
+pub const POINTERS: u16 = 4_096;
+/// 01, registers: "13-bit x and y".
+pub const COORDINATES: u16 = 8_192;
+/// Manual 1.1.1: a sector is 1,024 points wide and high.
+pub const SECTOR: u16 = 1_024;
+/// 01, registers: "magnitudes up to 1,023".
+pub const GREATEST_MAGNITUDE: u16 = 1_023;
+
+/// The display address that lies `count` words further on. 01, registers.
+pub fn address_after(address: u16, count: u16) -> u16 {
+    ((u32::from(address) + u32::from(count)) % u32::from(ADDRESSES)) as u16
+}
+
+/// The pushdown pointer `count` words further on. 01, registers.
+pub fn pointer_after(pointer: u16, count: u16) -> u16 {
+    ((u32::from(pointer) + u32::from(count)) % u32::from(POINTERS)) as u16
+}
+
+/// The pushdown pointer `count` words back (at most 4,096). 01, registers.
+pub fn pointer_before(pointer: u16, count: u16) -> u16 {
+    pointer_after(pointer, POINTERS.saturating_sub(count))
+}
+
+impl Registers {
+    /// 01, registers: "Fresh is all zero: control state, not running, no motion".
+    pub fn fresh() -> Registers {
+        Registers {
+            display_address: 0,
+            pushdown_pointer: 0,
+            x: 0,
+            y: 0,
+            state: State::Control,
+            mode: 0,
+            scale: 0,
+            intensity: 0,
+            pen_enable: false,
+            pen_hold: false,
+            pen_sense: false,
+            blink: false,
+            idle: false,
+            buttons: 0,
+            hit_bank_1: false,
+            hit_bank_2: false,
+            internal_stop_flag: false,
+            external_stop_flag: false,
+            vertical_edge_flag: false,
+            horizontal_edge_flag: false,
+            pen_flag: false,
+            manual_interrupt_flag: false,
+            conditions: 0,
+            running: false,
+            stop_request: false,
+            motion: Motion::Nothing,
+        }
+    }
+
+    /// 01, registers: "Values outside this are refusal 4". Nothing else is asked: a display that
+    /// runs with a stopping flag on, or waits with a stop request, is accepted.
+    pub fn are_in_range(&self) -> bool {
+        self.display_address < ADDRESSES
+            && self.pushdown_pointer < POINTERS
+            && self.x < COORDINATES
+            && self.y < COORDINATES
+            && self.mode <= 7
+            && self.scale <= 3
+            && self.intensity <= 7
+            && self.buttons <= GREATEST_WORD
+            && self.conditions <= GREATEST_WORD
+            && self.motion_is_in_range()
+    }
+
+    /// 01, registers, the paragraph on motion.
+    fn motion_is_in_range(&self) -> bool {
+        match self.motion {
+            Motion::Nothing => true,
+            Motion::Line(line) => {
+                self.state == State::Data && matches!(self.mode, 2..=4) && line.is_in_range()
+            }
+            Motion::Bytes(bytes) => {
+                self.state == State::Data && self.mode == 1 && bytes.is_in_range()
+            }
+        }
+    }
+
+    /// 01, registers: the display address holds the manual's break field in its upper three bits.
+    pub fn break_field(&self) -> u16 {
+        self.display_address / POINTERS
+    }
+
+    /// One of the 12 initial-condition bits, in the layout of manual 2.3.2.2.
+    pub fn condition(&self, place: u16) -> bool {
+        bit(self.conditions, place)
+    }
+
+    /// Manual 1.1.1 and 2.1.7.3: sector 0 is where the high three bits of both x and y are 0.
+    pub fn in_sector_0(&self) -> bool {
+        self.x < SECTOR && self.y < SECTOR
+    }
+
+    /// The flags of group 1 in manual 1.1.9, "flags which stop the display". Start, resume and
+    /// clear turn them off together.
+    pub fn clear_stopping_flags(&mut self) {
+        self.internal_stop_flag = false;
+        self.external_stop_flag = false;
+        self.vertical_edge_flag = false;
+        self.horizontal_edge_flag = false;
+        self.pen_flag = false;
+    }
+}
+
+impl Line {
+    /// 01, registers: "magnitudes up to 1,023, n = the larger, at least 1, done k below n".
+    pub fn is_in_range(&self) -> bool {
+        self.y_magnitude <= GREATEST_MAGNITUDE
+            && self.x_magnitude <= GREATEST_MAGNITUDE
+            && self.moves == self.y_magnitude.max(self.x_magnitude)
+            && self.moves >= 1
+            && self.done < self.moves
+    }
+}
+
+impl Bytes {
+    /// 01, registers: "1 to 3 moves left and no more than that byte asks; right only if the left
+    /// byte does not escape".
+    pub fn is_in_range(&self) -> bool {
+        self.word <= GREATEST_WORD
+            && self.moves_left >= 1
+            && self.moves_left <= byte_moves(self.byte())
+            && (self.side == Side::Left || !byte_escapes(byte_of(self.word, Side::Left)))
+    }
+
+    /// The byte that is being executed.
+    pub fn byte(&self) -> u16 {
+        byte_of(self.word, self.side)
+    }
+}
+
+/// Manual 2.2.2: the first byte is bits 0 to 5, the second bits 6 to 11.
+pub fn byte_of(word: u16, side: Side) -> u16 {
+    match side {
+        Side::Left => field(word, 0, 5),
+        Side::Right => field(word, 6, 11),
+    }
+}
+
+/// Bits 1, 2 of a six-bit byte, which say its moves and its escape.
+fn byte_count(byte: u16) -> u16 {
+    (byte >> 3) & 3
+}
+
+/// 01, data words, increment: "00 one move and escape, 01, 10, 11 one, two, three moves".
+pub fn byte_moves(byte: u16) -> u16 {
+    byte_count(byte).max(1)
+}
+
+/// 01, data words, increment: only the count 00 escapes.
+pub fn byte_escapes(byte: u16) -> bool {
+    byte_count(byte) == 0
+}
+
+/// Manual 2.2.2: bit 0 of a byte asks for its points.
+pub fn byte_lit(byte: u16) -> bool {
+    (byte >> 5) & 1 == 1
+}
+
+/// Manual 2.2.2: bits 3, 4, 5 of a byte.
+pub fn byte_direction(byte: u16) -> u16 {
+    byte & 7
+}
+
+#[cfg(test)]
+mod tests {
+    use super::*;
+
+    fn line() -> Line {
+        Line {
+            y_minus: false,
+            x_minus: true,
+            y_magnitude: 3,
+            x_magnitude: 5,
+            moves: 5,
+            done: 4,
+            lit: false,
+            escape: false,
+        }
+    }
+
+    fn moving(motion: Motion, mode: u8) -> Registers {
+        Registers {
+            state: State::Data,
+            mode,
+            motion,
+            ..Registers::fresh()
+        }
+    }
+
+    #[test]
+    fn fresh_registers_are_in_range() {
+        assert!(Registers::fresh().are_in_range());
+    }
+
+    #[test]
+    fn each_number_has_its_last_good_value() {
+        let good = Registers {
+            display_address: 32_767,
+            pushdown_pointer: 4_095,
+            x: 8_191,
+            y: 8_191,
+            mode: 7,
+            scale: 3,
+            intensity: 7,
+            buttons: 4_095,
+            conditions: 4_095,
+            ..Registers::fresh()
+        };
+        assert!(good.are_in_range());
+        assert!(!Registers {
+            display_address: 32_768,
+            ..good
+        }
+        .are_in_range());
+        assert!(!Registers {
+            pushdown_pointer: 4_096,
+            ..good
+        }
+        .are_in_range());
+        assert!(!Registers { x: 8_192, ..good }.are_in_range());
+        assert!(!Registers { y: 8_192, ..good }.are_in_range());
+        assert!(!Registers { mode: 8, ..good }.are_in_range());
+        assert!(!Registers { scale: 4, ..good }.are_in_range());
+        assert!(!Registers {
+            intensity: 8,
+            ..good
+        }
+        .are_in_range());
+        assert!(!Registers {
+            buttons: 4_096,
+            ..good
+        }
+        .are_in_range());
+        assert!(!Registers {
+            conditions: 4_096,
+            ..good
+        }
+        .are_in_range());
+    }
+
+    #[test]
+    fn odd_mixtures_are_accepted() {
+        let odd = Registers {
+            running: true,
+            internal_stop_flag: true,
+            pen_hold: true,
+            pen_enable: true,
+            ..Registers::fresh()
+        };
+        assert!(odd.are_in_range());
+        assert!(Registers {
+            running: false,
+            stop_request: true,
+            ..odd
+        }
+        .are_in_range());
+    }
+
+    #[test]
+    fn a_line_keeps_its_rules() {
+        for mode in 0..8 {
+            let in_range = moving(Motion::Line(line()), mode).are_in_range();
+            assert_eq!(in_range, (2..=4).contains(&mode));
+        }
+        let control = Registers {
+            state: State::Control,
+            ..moving(Motion::Line(line()), 2)
+        };
+        assert!(!control.are_in_range());
+        assert!(!Line { done: 5, ..line() }.is_in_range());
+        assert!(!Line { moves: 6, ..line() }.is_in_range());
+        assert!(!Line {
+            moves: 3,
+            done: 0,
+            ..line()
+        }
+        .is_in_range());
+        assert!(!Line {
+            x_magnitude: 1_024,
+            moves: 1_024,
+            ..line()
+        }
+        .is_in_range());
+        assert!(!Line {
+            y_magnitude: 1_024,
+            moves: 1_024,
+            ..line()
+        }
+        .is_in_range());
+        assert!(Line {
+            y_magnitude: 1_023,
+            moves: 1_023,
+            ..line()
+        }
+        .is_in_range());
+        let still = Line {
+            y_magnitude: 0,
+            x_magnitude: 0,
+            moves: 0,
+            done: 0,
+            ..line()
+        };
+        assert!(!still.is_in_range());
+        // A short vector's word cannot ask for more than 15, but registers may hand more in.
+        let long = Line {
+            x_magnitude: 1_023,
+            moves: 1_023,
+            ..line()
+        };
+        assert!(moving(Motion::Line(long), 4).are_in_range());
+    }
+
+    #[test]
+    fn bytes_keep_their_rules() {
+        // Left byte 36o: three moves; right byte 12o: one move.
+        let bytes = Bytes {
+            word: 0o3612,
+            side: Side::Left,
+            moves_left: 3,
+        };
+        for mode in 0..8 {
+            assert_eq!(moving(Motion::Bytes(bytes), mode).are_in_range(), mode == 1);
+        }
+        let control = Registers {
+            state: State::Control,
+            ..moving(Motion::Bytes(bytes), 1)
+        };
+        assert!(!control.are_in_range());
+        assert!(!Bytes {
+            moves_left: 0,
+            ..bytes
+        }
+        .is_in_range());
+        assert!(!Bytes {
+            moves_left: 4,
+            ..bytes
+        }
+        .is_in_range());
+        assert!(!Bytes {
+            word: 0o13612,
+            ..bytes
+        }
+        .is_in_range());
+        let right = Bytes {
+            side: Side::Right,
+            moves_left: 1,
+            ..bytes
+        };
+        assert!(right.is_in_range());
+        assert!(!Bytes {
+            moves_left: 2,
+            ..right
+        }
+        .is_in_range());
+        // A left byte that escapes leaves no right one.
+        assert!(!Bytes {
+            word: 0o0612,
+            ..right
+        }
+        .is_in_range());
+        assert!(Bytes {
+            word: 0o0612,
+            side: Side::Left,
+            moves_left: 1
+        }
+        .is_in_range());
+        assert!(!Bytes {
+            word: 0o0612,
+            side: Side::Left,
+            moves_left: 2
+        }
+        .is_in_range());
+    }
+
+    #[test]
+    fn addresses_and_pointers_wrap() {
+        assert_eq!(address_after(0o77777, 1), 0);
+        assert_eq!(address_after(0o77776, 3), 1);
+        assert_eq!(pointer_after(0o7777, 2), 1);
+        assert_eq!(pointer_before(1, 2), 0o7777);
+        assert_eq!(pointer_before(0, 1), 0o7777);
+    }
+}

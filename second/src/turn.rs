@@ -1,0 +1,418 @@
+//! One turn of a run: the tests before each beat, in their order, and the run that repeats them.
+
+use crate::control_words::control_command_beat;
+use crate::data_words::{byte_move_beat, data_command_beat, line_move_beat};
+use crate::refusals_and_endings::{refuse_run, Answer, Ending, LentMemory, Loan};
+use crate::registers::{Motion, Registers, State};
+
+/// What a beat gives besides the registers it leaves. 01: "A beat lights at most one point".
+#[derive(Clone, Copy, Debug, PartialEq, Eq)]
+pub struct Beat {
+    pub point: Option<u32>,
+    /// 01: "a beat that stops the display ends the run with 12 or 14".
+    pub stop: Option<Ending>,
+}
+
+impl Beat {
+    /// A beat that lights nothing and lets the display go on.
+    pub fn quiet() -> Beat {
+        Beat {
+            point: None,
+            stop: None,
+        }
+    }
+}
+
+/// 01, one turn of a run: the whole run. A refusal leaves registers, memory and points as given.
+pub fn run(
+    registers: &mut Registers,
+    memory: &mut [u16],
+    loan: Loan,
+    budget: u32,
+    points: &mut [u32],
+) -> Answer {
+    if let Some(refusal) = refuse_run(registers, memory, loan, budget) {
+        return Answer::without_beats(refusal);
+    }
+    // 01: "If not running at entry: 10".
+    if !registers.running {
+        return Answer::without_beats(Ending::NotRunning);
+    }
+    let mut memory = LentMemory::new(memory, loan);
+    let mut beats = 0;
+    let mut lit = 0;
+    let ending = loop {
+        // 01, 1: "budget used up: 11". It stands before all else, so that budget 0 makes nothing.
+        if beats >= budget {
+            break Ending::BudgetSpent;
+        }
+        let place = points.get_mut(lit as usize);
+        match turn(registers, &mut memory, place.is_some()) {
+            Ok(beat) => {
+                beats += 1;
+                if let (Some(point), Some(place)) = (beat.point, place) {
+                    *place = point;
+                    lit += 1;
+                }
+                if let Some(stop) = beat.stop {
+                    break stop;
+                }
+            }
+            Err(ending) => break ending,
+        }
+    };
+    Answer {
+        ending,
+        beats,
+        points: lit,
+    }
+}
+
+/// 01, one turn of a run, tests 2 to 5 and then the beat. Endings 16, 17, 18 "change nothing", so
+/// the beat is made on a copy that replaces the registers only once every test is passed.
+fn turn(registers: &mut Registers, memory: &mut LentMemory, room: bool) -> Result<Beat, Ending> {
+    external_stop(registers)?;
+    unusable_mode(registers)?;
+    let mut after = *registers;
+    let beat = match after.motion {
+        Motion::Nothing => command_beat(&mut after, memory)?,
+        Motion::Line(line) => line_move_beat(&mut after, line),
+        Motion::Bytes(bytes) => byte_move_beat(&mut after, bytes),
+    };
+    // 01, 5: "the beat would light a point and the list is full: 18". The only beat that writes
+    // memory is a push, which lights nothing, so no word was stored when this test fails.
+    if beat.point.is_some() && !room {
+        return Err(Ending::PointListFull);
+    }
+    *registers = after;
+    Ok(beat)
+}
+
+/// 01, 2: "no motion and a stop request: request off, external flag on, running off, 13, no beat".
+fn external_stop(registers: &mut Registers) -> Result<(), Ending> {
+    if registers.motion == Motion::Nothing && registers.stop_request {
+        registers.stop_request = false;
+        registers.external_stop_flag = true;
+        registers.running = false;
+        return Err(Ending::ExternalStop);
+    }
+    Ok(())
+}
+
+/// 01, 3: "no motion, data state, mode 5 or 7: running off, 15, no beat, no flag".
+fn unusable_mode(registers: &mut Registers) -> Result<(), Ending> {
+    if registers.motion == Motion::Nothing
+        && registers.state == State::Data
+        && (registers.mode == 5 || registers.mode == 7)
+    {
+        registers.running = false;
+        return Err(Ending::UnusableMode);
+    }
+    Ok(())
+}
+
+/// 01: "one command beat executes or fetches one command".
+fn command_beat(registers: &mut Registers, memory: &mut LentMemory) -> Result<Beat, Ending> {
+    end_hold(registers);
+    match registers.state {
+        State::Control => control_command_beat(registers, memory),
+        State::Data => data_command_beat(registers, memory),
+    }
+}
+
+/// 01: "A command beat first ends pen hold if it is on (pen enable on, hold off)". First, so that
+/// a push jump stores the pen on and LPOF has the last word.
+fn end_hold(registers: &mut Registers) {
+    if registers.pen_hold {
+        registers.pen_enable = true;
+        registers.pen_hold = false;
+    }
+}
+
+#[cfg(test)]
+pub mod tests {
+    use super::*;
+    use crate::refusals_and_endings::{LoanRange, MEMORY_LENGTH};
+    use crate::registers::{Bytes, Line, Side};
+
+    /// A display, its memory and its points, as the examples of 01's sheet set them up.
+    pub struct Bench {
+        pub registers: Registers,
+        pub memory: Vec<u16>,
+        pub points: Vec<u32>,
+        pub loan: Loan,
+    }
+
+    impl Bench {
+        /// A running display in control state at this address, all of memory lent.
+        pub fn at(address: u16, words: &[u16]) -> Bench {
+            let registers = Registers {
+                display_address: address,
+                running: true,
+                ..Registers::fresh()
+            };
+            let mut bench = Bench {
+                registers,
+                memory: vec![0; MEMORY_LENGTH],
+                points: vec![0; 1_024],
+                loan: Loan::all(),
+            };
+            bench.put(address, words);
+            bench
+        }
+
+        /// The same in data state and this mode.
+        pub fn data(mode: u8, words: &[u16]) -> Bench {
+            let mut bench = Bench::at(0o200, words);
+            bench.registers.state = State::Data;
+            bench.registers.mode = mode;
+            bench
+        }
+
+        pub fn put(&mut self, address: u16, words: &[u16]) {
+            for (place, &word) in words.iter().enumerate() {
+                self.memory[(usize::from(address) + place) % MEMORY_LENGTH] = word;
+            }
+        }
+
+        pub fn run(&mut self, budget: u32) -> Answer {
+            run(
+                &mut self.registers,
+                &mut self.memory,
+                self.loan,
+                budget,
+                &mut self.points,
+            )
+        }
+    }
+
+    pub fn range(low: u16, high: u16) -> LoanRange {
+        LoanRange { low, high }
+    }
+
+    pub fn ended(ending: Ending, beats: u32, points: u32) -> Answer {
+        Answer {
+            ending,
+            beats,
+            points,
+        }
+    }
+
+    #[test]
+    fn p10_budget_0_on_a_running_display() {
+        let mut bench = Bench::at(0, &[]);
+        let before = bench.registers;
+        assert_eq!(bench.run(0), ended(Ending::BudgetSpent, 0, 0));
+        assert_eq!(bench.registers, before);
+    }
+
+    #[test]
+    fn not_running_comes_before_the_budget_and_the_request() {
+        let mut bench = Bench::at(0, &[]);
+        bench.registers.running = false;
+        bench.registers.stop_request = true;
+        assert_eq!(bench.run(0), ended(Ending::NotRunning, 0, 0));
+        assert!(bench.registers.stop_request);
+    }
+
+    #[test]
+    fn the_budget_comes_before_the_request_and_the_mode() {
+        let mut bench = Bench::data(7, &[]);
+        bench.registers.stop_request = true;
+        assert_eq!(bench.run(0), ended(Ending::BudgetSpent, 0, 0));
+        assert_eq!(bench.run(1), ended(Ending::ExternalStop, 0, 0));
+        assert!(!bench.registers.stop_request);
+        assert!(bench.registers.external_stop_flag);
+        assert!(!bench.registers.running);
+        bench.registers.running = true;
+        let flags = bench.registers.external_stop_flag;
+        assert_eq!(bench.run(1), ended(Ending::UnusableMode, 0, 0));
+        assert!(!bench.registers.running);
+        assert_eq!(bench.registers.external_stop_flag, flags);
+    }
+
+    #[test]
+    fn a_request_waits_for_the_motion() {
+        // Increment word: left one move right, right one move and escape.
+        let mut bench = Bench::data(1, &[0o1000]);
+        assert_eq!(bench.run(1), ended(Ending::BudgetSpent, 1, 0));
+        bench.registers.stop_request = true;
+        assert_eq!(bench.run(10), ended(Ending::ExternalStop, 2, 0));
+        assert_eq!(bench.registers.x, 2);
+        assert_eq!(bench.registers.state, State::Control);
+    }
+
+    #[test]
+    fn a_stop_on_the_last_beat_of_the_budget_is_a_stop() {
+        let mut bench = Bench::at(0o100, &[0o1400]);
+        assert_eq!(bench.run(1), ended(Ending::InternalStop, 1, 0));
+        let mut bench = Bench::data(6, &[0]);
+        bench.registers.x = 1_023;
+        assert_eq!(bench.run(1), ended(Ending::Edge, 1, 0));
+    }
+
+    #[test]
+    fn mode_word_1171_is_an_ordinary_beat() {
+        let mut bench = Bench::at(0o100, &[0o1171]);
+        assert_eq!(bench.run(1), ended(Ending::BudgetSpent, 1, 0));
+        assert_eq!(bench.run(1), ended(Ending::UnusableMode, 0, 0));
+        assert_eq!(bench.registers.display_address, 0o101);
+    }
+
+    #[test]
+    fn mode_5_in_control_state_is_no_ending() {
+        let mut bench = Bench::at(0o100, &[0o1150]);
+        assert_eq!(bench.run(4), ended(Ending::BudgetSpent, 4, 0));
+    }
+
+    #[test]
+    fn fence_and_width_leave_running_on_and_change_nothing() {
+        let mut bench = Bench::at(0o100, &[0o10000]);
+        bench.registers.pen_hold = true;
+        let before = bench.registers;
+        assert_eq!(bench.run(5), ended(Ending::WordTooWide, 0, 0));
+        assert_eq!(bench.registers, before);
+        bench.loan = Loan {
+            file: range(0, 0o100),
+            list: range(0o101, 0o200),
+        };
+        assert_eq!(bench.run(5), ended(Ending::OutsideLoan, 0, 0));
+        assert_eq!(bench.registers, before);
+    }
+
+    #[test]
+    fn touches_are_tested_one_by_one() {
+        // The first word is too wide and the second not lent: the first decides.
+        let mut bench = Bench::data(0, &[0o10000, 0]);
+        bench.loan = Loan {
+            file: range(0o200, 0o201),
+            list: range(0, 0),
+        };
+        assert_eq!(bench.run(5), ended(Ending::WordTooWide, 0, 0));
+        // A good first word, a second that is too wide but not lent: the fence decides.
+        let mut bench = Bench::data(0, &[0, 0o10000]);
+        bench.loan = Loan {
+            file: range(0o200, 0o201),
+            list: range(0, 0),
+        };
+        assert_eq!(bench.run(5), ended(Ending::OutsideLoan, 0, 0));
+        bench.loan = Loan {
+            file: range(0o200, 0o201),
+            list: range(0o201, 0o202),
+        };
+        assert_eq!(bench.run(5), ended(Ending::WordTooWide, 0, 0));
+    }
+
+    #[test]
+    fn a_move_beat_touches_nothing() {
+        let mut bench = Bench::data(1, &[0o3636]);
+        assert_eq!(bench.run(1), ended(Ending::BudgetSpent, 1, 0));
+        bench.loan = Loan {
+            file: range(0, 0),
+            list: range(0, 0),
+        };
+        bench.registers.y = 100;
+        assert_eq!(bench.run(100), ended(Ending::OutsideLoan, 6, 0));
+    }
+
+    #[test]
+    fn room_is_asked_only_by_a_beat_that_lights() {
+        let mut bench = Bench::data(0, &[0o4001, 0o0001, 0o0002, 0o0002]);
+        bench.points = vec![];
+        let before = bench.registers;
+        assert_eq!(bench.run(5), ended(Ending::PointListFull, 0, 0));
+        assert_eq!(bench.registers, before);
+        // Outside sector 0 the same words light nothing and need no room.
+        bench.registers.x = 1_024;
+        assert_eq!(bench.run(2), ended(Ending::BudgetSpent, 2, 0));
+        // The violating graphplot lights nothing either.
+        let mut bench = Bench::data(6, &[0]);
+        bench.points = vec![];
+        bench.registers.x = 1_023;
+        assert_eq!(bench.run(5), ended(Ending::Edge, 1, 0));
+        // A fetch that is not lent comes before the full list.
+        let mut bench = Bench::data(0, &[0o4001, 0o0001]);
+        bench.points = vec![];
+        bench.loan = Loan {
+            file: range(0o200, 0o201),
+            list: range(0, 0),
+        };
+        assert_eq!(bench.run(5), ended(Ending::OutsideLoan, 0, 0));
+    }
+
+    #[test]
+    fn points_fill_from_the_first_place_and_the_rest_stay() {
+        let mut bench = Bench::data(0, &[0o4001, 0o0002, 0o4003, 0o4004]);
+        bench.points = vec![9; 4];
+        bench.registers.intensity = 5;
+        bench.registers.blink = true;
+        bench.put(0o204, &[0o1400]);
+        assert_eq!(bench.run(5), ended(Ending::InternalStop, 3, 2));
+        let level = 5 * 1_048_576 + 8_388_608;
+        assert_eq!(
+            bench.points,
+            [2 + 1_024 + level, 4 + 3 * 1_024 + level, 9, 9]
+        );
+    }
+
+    #[test]
+    fn every_command_beat_ends_hold_and_no_move_beat_does() {
+        // A zero vector, a point, a stop word.
+        for (mut bench, name) in [
+            (Bench::data(2, &[0, 0]), "zero vector"),
+            (Bench::data(0, &[0, 0]), "point"),
+            (Bench::data(6, &[0]), "graphplot"),
+            (Bench::at(0o200, &[0o1400]), "stop"),
+        ] {
+            bench.registers.pen_hold = true;
+            bench.run(1);
+            assert!(!bench.registers.pen_hold, "{name}");
+            assert!(bench.registers.pen_enable, "{name}");
+        }
+        let mut bench = Bench::data(1, &[]);
+        bench.registers.pen_hold = true;
+        bench.registers.motion = Motion::Bytes(Bytes {
+            word: 0o1010,
+            side: Side::Left,
+            moves_left: 1,
+        });
+        bench.run(2);
+        assert_eq!(bench.registers.motion, Motion::Nothing);
+        assert!(bench.registers.pen_hold);
+        assert!(!bench.registers.pen_enable);
+        let mut bench = Bench::data(3, &[]);
+        bench.registers.pen_hold = true;
+        bench.registers.motion = Motion::Line(Line {
+            y_minus: true,
+            x_minus: false,
+            y_magnitude: 1,
+            x_magnitude: 0,
+            moves: 1,
+            done: 0,
+            lit: true,
+            escape: true,
+        });
+        assert_eq!(bench.run(1), ended(Ending::BudgetSpent, 1, 0));
+        assert_eq!(bench.registers.state, State::Control);
+        assert!(bench.registers.pen_hold);
+    }
+
+    #[test]
+    fn endings_without_a_beat_leave_hold() {
+        let mut bench = Bench::data(5, &[]);
+        bench.registers.pen_hold = true;
+        assert_eq!(bench.run(5), ended(Ending::UnusableMode, 0, 0));
+        assert!(bench.registers.pen_hold);
+        bench.registers.running = true;
+        bench.registers.stop_request = true;
+        assert_eq!(bench.run(5), ended(Ending::ExternalStop, 0, 0));
+        assert!(bench.registers.pen_hold);
+    }
+
+    #[test]
+    fn the_practice_example_lights_one_point() {
+        let mut bench = Bench::at(0o200, &[0o1101, 0o4144, 0o4310, 0o1400]);
+        assert_eq!(bench.run(65_535), ended(Ending::InternalStop, 3, 1));
+        assert_eq!(bench.points[0], 200 + 1_024 * 100);
+    }
+}

@@ -1,6 +1,7 @@
--- How the walk of a beat goes on: at a fetch that gets its word or does not, and at an act that stores nothing. Assumes nothing.
+-- How the walk of a beat goes on: at a fetch that gets its word or does not, at the tests of an idle display and of a command, and at an act that
+-- stores nothing. Assumes nothing.
 use Prim.Native.Nat.{ℕ, _≤_}
-use mathlib.Core.Path.{_≡_, refl, sym, _∙_, ap}
+use mathlib.Core.Path.{_≡_, refl, sym, _∙_, ap, ap₂}
 use mathlib.Core.Bool.{Bool, true, false}
 use mathlib.Core.List.{List}
 use native.Mathlib.Omega.{arith}
@@ -17,7 +18,7 @@ use Rattle.beats.specs.declared.Why.{Why}
 use Rattle.beats.specs.declared.Why.the-variants.{Fetch, Wide}
 use Rattle.beats.specs.declared.Got.{Got}
 use Rattle.beats.specs.declared.Got.the-variants.{Word, Not}
-use Rattle.beats.specs.OneTurn.{Beat, fetch, act, Fails, Does, got, onGot, storing, walk, acted}
+use Rattle.beats.specs.OneTurn.{Beat, fetch, act, Fails, Does, got, onGot, storing, walk, acted, unheld, commandBy, commandBeat, unusable, idleBy, idleBeat}
 
 module _ (l : Loan) (m : List ℕ) (a : DisplayAddress) (k : ℕ → Beat) {g : Got} (p : g ≡ got l m a) where
   pub walk-word : {w : ℕ} → g ≡ Word w → walk l m (fetch a k) ≡ walk l m (k w)
@@ -27,6 +28,18 @@ module _ (l : Loan) (m : List ℕ) (a : DisplayAddress) (k : ℕ → Beat) {g : 
   pub walk-not : {why : Why} → g ≡ Not why → walk l m (fetch a k) ≡ Fails why
   unfolding walk
   walk-not q = ap (onGot (λ w. walk l m (k w))) (sym p ∙ q)
+
+-- the tests of an idle display and of a command, taken one by one
+module _ (l : Loan) (m : List ℕ) (b : Base) where
+  pub walk-idle : {request wrong : Bool} → b .request ≡ request → unusable b ≡ wrong → walk l m (idleBeat b) ≡ walk l m (idleBy b request wrong)
+  unfolding idleBeat
+  walk-idle p q = ap₂ (λ (t u : Bool). walk l m (idleBy b t u)) p q
+
+  pub walk-command : (w : ℕ) {c : Base} {datastate : Bool} → c ≡ unheld b → c .datastate ≡ datastate →
+      walk l m (commandBeat b w) ≡ walk l m (commandBy c w datastate)
+  unfolding commandBeat
+  walk-command w {c} e p =
+      ap (λ (z : Base). walk l m (commandBy z w (z .datastate))) (sym e) ∙ ap (λ (t : Bool). walk l m (commandBy c w t)) p
 
 pub walk-acted : (l : Loan) (m : List ℕ) (b : Base) (stop : Stop) → walk l m (act (acted b stop)) ≡ Does (acted b stop)
 unfolding walk storing

@@ -99,14 +99,18 @@ pushAct b w v =
     }
 
 -- 2: its words are at the display address and the next; bit 8 pushes
+abbrev pub jumped : Base → ℕ → ℕ → Beat
+jumped b w v = act (pick (bit w 8) (pushAct b w v) (acted (jump b w v) On))
+
 unfoldable pub jumpBeat : Base → ℕ → Beat
-jumpBeat b w = fetch (addressAfter (b .address) 1) (λ v. act (pick (bit w 8) (pushAct b w v) (acted (jump b w v) On)))
+jumpBeat b w = fetch (addressAfter (b .address) 1) (jumped b w)
 
 -- 3: a pop fetches at pointer-2 and pointer-1
+abbrev pub popped : Base → ℕ → ℕ → Beat
+popped b w first = fetch (fieldZero (pointerBefore (b .pointer) 1)) (λ second. act (acted (pop b w first second) On))
+
 unfoldable pub popBeat : Base → ℕ → Beat
-popBeat b w =
-    fetch (fieldZero (pointerBefore (b .pointer) 2))
-    (λ first. fetch (fieldZero (pointerBefore (b .pointer) 1)) (λ second. act (acted (pop b w first second) On)))
+popBeat b w = fetch (fieldZero (pointerBefore (b .pointer) 2)) (popped b w)
 
 -- 60 to 63; the slave words 64 to 67 do nothing
 unfoldable pub miscellaneous : Base → ℕ → Base
@@ -130,8 +134,11 @@ controlBeat b w =
 -- DATA WORDS
 
 -- modes 0, 2 and 3 take a second word, at the next address
+abbrev pub longer : Base → ℕ → ℕ → Beat
+longer b w v = act (whole (pick (eqb (b .mode) 0) (point b w v) (vector b w v)))
+
 unfoldable pub longBeat : Base → ℕ → Beat
-longBeat b w = fetch (addressAfter (b .address) 1) (λ v. act (whole (pick (eqb (b .mode) 0) (point b w v) (vector b w v))))
+longBeat b w = fetch (addressAfter (b .address) 1) (longer b w)
 
 -- a data word by the mode; modes 5 and 7 rest before (test 3 of the turn)
 unfoldable pub dataBeat : Base → ℕ → Beat
@@ -145,8 +152,11 @@ dataBeat b w =
 abbrev pub unheld : Base → Base
 unheld b = withHold (withPen b (b .pen || b .hold)) false
 
+abbrev pub commandBy : Base → ℕ → Bool → Beat
+commandBy b w datastate = pick datastate (dataBeat b w) (controlBeat b w)
+
 unfoldable pub commandBeat : Base → ℕ → Beat
-commandBeat b w = pick (b .datastate) (dataBeat (unheld b) w) (controlBeat (unheld b) w)
+commandBeat b w = commandBy (unheld b) w (b .datastate)
 
 -- test 3: no motion, data state, mode 5 or 7
 unfoldable pub unusable : Base → Bool

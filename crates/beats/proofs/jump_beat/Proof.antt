@@ -2,10 +2,8 @@
 use borrow.Author.Needs.{needs}
 use mathlib.Core.Path.{sym, ap, _∙_}
 use denote.Ref.{now}
-use Rattle.words.specs.Words.{bit, pick}
-use Rattle.control.specs.ControlWords.{jump}
-use Rattle.moves.specs.declared.Stop.the-variants.{On}
-use Rattle.beats.specs.OneTurn.{act, got, storing, walk, acted, pushAct, jumpBeat}
+use Rattle.words.specs.Words.{pick}
+use Rattle.beats.specs.OneTurn.{got, storing, walk, jumped, jumpBeat}
 use Rattle.beats.proofs.Walk.{walk-word, walk-not}
 use Rattle.beats.proofs.jump_beat.Statement.{statement}
 use Rattle.beats.proofs.jump_beat.Tie as tie
@@ -25,10 +23,10 @@ jump-beat-spec =
     (λ c κs. search needs)
     (λ c. search needs)
     (λ c. let a = c .before .before .before .before .before .before .before .before .before .before .args in
-    let e = walk-word (a .l) (now (a .memory)) _ (λ v. act (pick (bit (a .word) 8) (pushAct (a .b) (a .word) v) (acted (jump (a .b) (a .word) v) On))) (c .before .before .before .before .before .before .before .fetch .ensures ∙ ap (got (a .l) (now (a .memory))) (c .before .before .before .before .before .before .before .before .after .ensures)) (c .before .before .before .before .before .second .given .1) in
+    let e = walk-word (a .l) (now (a .memory)) _ (jumped (a .b) (a .word)) (c .before .before .before .before .before .before .before .fetch .ensures ∙ ap (got (a .l) (now (a .memory))) (c .before .before .before .before .before .before .before .before .after .ensures)) (c .before .before .before .before .before .second .given .1) in
     c .allowed .ensures ∙ sym (e ∙ rw (sym (c .before .before .before .bit .ensures) ∙ c .before .before .if1 .taken, c .before .push-act .ensures)))
     (λ c. let a = c .before .before .before .before .before .before .before .before .before .before .args in
-    let e = walk-word (a .l) (now (a .memory)) _ (λ v. act (pick (bit (a .word) 8) (pushAct (a .b) (a .word) v) (acted (jump (a .b) (a .word) v) On))) (c .before .before .before .before .before .before .before .fetch .ensures ∙ ap (got (a .l) (now (a .memory))) (c .before .before .before .before .before .before .before .before .after .ensures)) (c .before .before .before .before .before .second .given .1) in
+    let e = walk-word (a .l) (now (a .memory)) _ (jumped (a .b) (a .word)) (c .before .before .before .before .before .before .before .fetch .ensures ∙ ap (got (a .l) (now (a .memory))) (c .before .before .before .before .before .before .before .before .after .ensures)) (c .before .before .before .before .before .second .given .1) in
     sym (e ∙ rw (sym (c .before .before .before .bit .ensures) ∙ c .before .before .if1 .left, c .acted .ensures, c .before .jump .ensures)))
     (λ c. let a = c .before .before .before .before .before .before .args in
-    sym (walk-not (a .l) (now (a .memory)) _ (λ v. act (pick (bit (a .word) 8) (pushAct (a .b) (a .word) v) (acted (jump (a .b) (a .word) v) On))) (c .before .before .before .fetch .ensures ∙ ap (got (a .l) (now (a .memory))) (c .before .before .before .before .after .ensures)) (c .before .why .given .1))))
+    sym (walk-not (a .l) (now (a .memory)) _ (jumped (a .b) (a .word)) (c .before .before .before .fetch .ensures ∙ ap (got (a .l) (now (a .memory))) (c .before .before .before .before .after .ensures)) (c .before .why .given .1))))

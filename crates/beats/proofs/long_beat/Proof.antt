@@ -2,11 +2,9 @@
 use borrow.Author.Needs.{needs}
 use mathlib.Core.Path.{sym, ap, _∙_}
 use denote.Ref.{now}
-use lib.Dec.{eqb}
 use borrow.Author.Tests.{eq-eqb, ne-eqb}
 use Rattle.words.specs.Words.{pick}
-use Rattle.drawing.specs.DataWords.{point, vector}
-use Rattle.beats.specs.OneTurn.{act, got, storing, walk, whole, longBeat}
+use Rattle.beats.specs.OneTurn.{got, storing, walk, longer, longBeat}
 use Rattle.beats.proofs.Walk.{walk-word, walk-not}
 use Rattle.beats.proofs.long_beat.Statement.{statement}
 use Rattle.beats.proofs.long_beat.Tie as tie
@@ -23,10 +21,10 @@ long-beat-spec =
     (λ c κs. search needs)
     (λ c. search needs)
     (λ c. let a = c .before .before .before .before .before .before .before .before .before .args in
-    let e = walk-word (a .l) (now (a .memory)) _ (λ v. act (whole (pick (eqb (a .b .mode) 0) (point (a .b) (a .word) v) (vector (a .b) (a .word) v)))) (c .before .before .before .before .before .before .fetch .ensures ∙ ap (got (a .l) (now (a .memory))) (c .before .before .before .before .before .before .before .after .ensures)) (c .before .before .before .before .second .given .1) in
+    let e = walk-word (a .l) (now (a .memory)) _ (longer (a .b) (a .word)) (c .before .before .before .before .before .before .fetch .ensures ∙ ap (got (a .l) (now (a .memory))) (c .before .before .before .before .before .before .before .after .ensures)) (c .before .before .before .before .second .given .1) in
     sym (e ∙ rw (eq-eqb _ _ (c .before .if1 .taken), c .point .ensures)))
     (λ c. let a = c .before .before .before .before .before .before .before .before .before .args in
-    let e = walk-word (a .l) (now (a .memory)) _ (λ v. act (whole (pick (eqb (a .b .mode) 0) (point (a .b) (a .word) v) (vector (a .b) (a .word) v)))) (c .before .before .before .before .before .before .fetch .ensures ∙ ap (got (a .l) (now (a .memory))) (c .before .before .before .before .before .before .before .after .ensures)) (c .before .before .before .before .second .given .1) in
+    let e = walk-word (a .l) (now (a .memory)) _ (longer (a .b) (a .word)) (c .before .before .before .before .before .before .fetch .ensures ∙ ap (got (a .l) (now (a .memory))) (c .before .before .before .before .before .before .before .after .ensures)) (c .before .before .before .before .second .given .1) in
     sym (e ∙ rw (ne-eqb _ _ (c .before .if1 .left), c .vector .ensures)))
     (λ c. let a = c .before .before .before .before .before .before .args in
-    sym (walk-not (a .l) (now (a .memory)) _ (λ v. act (whole (pick (eqb (a .b .mode) 0) (point (a .b) (a .word) v) (vector (a .b) (a .word) v)))) (c .before .before .before .fetch .ensures ∙ ap (got (a .l) (now (a .memory))) (c .before .before .before .before .after .ensures)) (c .before .why .given .1))))
+    sym (walk-not (a .l) (now (a .memory)) _ (longer (a .b) (a .word)) (c .before .before .before .fetch .ensures ∙ ap (got (a .l) (now (a .memory))) (c .before .before .before .before .after .ensures)) (c .before .why .given .1))))

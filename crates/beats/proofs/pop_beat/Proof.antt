@@ -2,10 +2,8 @@
 use borrow.Author.Needs.{needs}
 use mathlib.Core.Path.{sym, ap, _∙_}
 use denote.Ref.{now}
-use Rattle.addresses.specs.Addresses.{pointerBefore, fieldZero}
-use Rattle.control.specs.ControlWords.{pop}
-use Rattle.moves.specs.declared.Stop.the-variants.{On}
-use Rattle.beats.specs.OneTurn.{fetch, act, got, acted, popBeat}
+use Rattle.addresses.specs.Addresses.{fieldZero}
+use Rattle.beats.specs.OneTurn.{got, popped, popBeat}
 use Rattle.beats.proofs.Walk.{walk-word, walk-not, walk-acted}
 use Rattle.beats.proofs.pop_beat.Statement.{statement}
 use Rattle.beats.proofs.pop_beat.Tie as tie
@@ -32,15 +30,15 @@ pop-beat-spec =
     let next = c .before .before .before .before .before .before .before .before .before .before .in-field-zero2 .ensures ∙ ap fieldZero (c .before .before .before .before .before .before .before .before .before .before .before .before3 .ensures) in
     let got-at = c .before .before .before .before .before .before .before .before .before .fetch .ensures ∙ ap (got (a .l) (now (a .memory))) at in
     let got-next = c .before .before .before .before .before .fetch2 .ensures ∙ ap (got (a .l) (now (a .memory))) next in
-    rw (c .acted .ensures, c .before .pop .ensures) (sym (walk-word (a .l) (now (a .memory)) _ (λ first. fetch (fieldZero (pointerBefore (a .b .pointer) 1)) (λ second. act (acted (pop (a .b) (a .word) first second) On))) got-at (c .before .before .before .before .before .before .before .first .given .1) ∙ walk-word (a .l) (now (a .memory)) _ _ got-next (c .before .before .before .second .given .1) ∙ walk-acted _ _ _ _)))
+    rw (c .acted .ensures, c .before .pop .ensures) (sym (walk-word (a .l) (now (a .memory)) _ (popped (a .b) (a .word)) got-at (c .before .before .before .before .before .before .before .first .given .1) ∙ walk-word (a .l) (now (a .memory)) _ _ got-next (c .before .before .before .second .given .1) ∙ walk-acted _ _ _ _)))
     (λ c. let a = c .before .before .before .before .before .before .before .before .before .before .before .before .before .args in
     let at = c .before .before .before .before .before .before .before .before .before .before .in-field-zero .ensures ∙ ap fieldZero (c .before .before .before .before .before .before .before .before .before .before .before .before2 .ensures) in
     let next = c .before .before .before .before .before .before .before .before .in-field-zero2 .ensures ∙ ap fieldZero (c .before .before .before .before .before .before .before .before .before .before3 .ensures) in
     let got-at = c .before .before .before .before .before .before .before .fetch .ensures ∙ ap (got (a .l) (now (a .memory))) at in
     let got-next = c .before .before .before .fetch2 .ensures ∙ ap (got (a .l) (now (a .memory))) next in
-    sym (walk-word (a .l) (now (a .memory)) _ (λ first. fetch (fieldZero (pointerBefore (a .b .pointer) 1)) (λ second. act (acted (pop (a .b) (a .word) first second) On))) got-at (c .before .before .before .before .before .first .given .1) ∙ walk-not (a .l) (now (a .memory)) _ _ got-next (c .before .why .given .1)))
+    sym (walk-word (a .l) (now (a .memory)) _ (popped (a .b) (a .word)) got-at (c .before .before .before .before .before .first .given .1) ∙ walk-not (a .l) (now (a .memory)) _ _ got-next (c .before .why .given .1)))
     (λ c. let a = c .before .before .before .before .before .before .before .before .before .args in
     let at = c .before .before .before .before .before .before .in-field-zero .ensures ∙ ap fieldZero (c .before .before .before .before .before .before .before .before2 .ensures) in
     let next = c .before .before .before .before .in-field-zero2 .ensures ∙ ap fieldZero (c .before .before .before .before .before .before3 .ensures) in
     let got-at = c .before .before .before .fetch .ensures ∙ ap (got (a .l) (now (a .memory))) at in
-    sym (walk-not (a .l) (now (a .memory)) _ (λ first. fetch (fieldZero (pointerBefore (a .b .pointer) 1)) (λ second. act (acted (pop (a .b) (a .word) first second) On))) got-at (c .before .why2 .given .1))))
+    sym (walk-not (a .l) (now (a .memory)) _ (popped (a .b) (a .word)) got-at (c .before .why2 .given .1))))

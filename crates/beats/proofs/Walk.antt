@@ -54,4 +54,5 @@ got-good l m a w e = by (mayFetch l a) (leb (getD m (a .0) 0) 4095) refl e
         pick t (pick u (Word (getD m (a .0) 0)) (Not (Wide a))) (Not (Fetch a)) ≡ Word w → w ≤ 4095
     by true true p q = let e : getD m (a .0) 0 ≡ w = cc in omega (arith, leb-true (getD m (a .0) 0) 4095 p)
     by true false p q = let z : _≡_ {A = ℕ} 0 1 = cc in omega arith
-    by false u p q = let z : _≡_ {A = ℕ} 0 1 = cc in omega arith
+    by false true p q = let z : _≡_ {A = ℕ} 0 1 = cc in omega arith
+    by false false p q = let z : _≡_ {A = ℕ} 0 1 = cc in omega arith

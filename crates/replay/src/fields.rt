@@ -46,7 +46,7 @@ const LARGEST_LINE: [u64; 8] = [1, 1, 65535, 65535, 65535, 65535, 1, 1];
 const LARGEST_BYTES: [u64; 3] = [65535, 1, 65535];
 
 // Registers, and the reader behind them: where it is not valid, they mean nothing. Below the same for a motion.
-pub struct Taken {
+pub(crate) struct Taken {
     pub reader: Reader,
     pub registers: Registers,
 }
@@ -57,7 +57,7 @@ struct Moving {
 }
 
 // A number that fits 16 bits, as its field has it; below one of 8 bits.
-pub fn wide(value: u64) -> u16 {
+pub(crate) fn wide(value: u64) -> u16 {
     (value % 65536) as u16
 }
 
@@ -180,7 +180,7 @@ fn read_motion(r: Reader, block: &mut Block) -> Moving {
 }
 
 // Reads registers, where the space before them was read last.
-pub fn read(r: Reader, block: &mut Block) -> Taken {
+pub(crate) fn read(r: Reader, block: &mut Block) -> Taken {
     let mut v = [0u64; 25];
     let moving = read_motion(input::numbers(r, block, &LARGEST, &mut v), block);
     let reader = moving.reader;
@@ -219,7 +219,7 @@ fn write_motion(motion: Motion, out: &mut Block, place: usize) -> usize {
 }
 
 // Writes registers, with a space before each number.
-pub fn write(r: Registers, out: &mut Block, place: usize) -> usize {
+pub(crate) fn write(r: Registers, out: &mut Block, place: usize) -> usize {
     let b = r.base;
     let motion = r.motion;
     let numbers = values(b);

@@ -3,7 +3,7 @@ use crate::Block;
 use crate::SIZE;
 
 // Where the reading stands in the block, `end` being how much of the block is filled, and what it read last.
-pub struct Reader {
+pub(crate) struct Reader {
     pub at: usize,
     pub end: usize,
     // The last byte, 0 once the input is over.
@@ -16,7 +16,7 @@ pub struct Reader {
 }
 
 // A reader before the first byte.
-pub fn start() -> Reader {
+pub(crate) fn start() -> Reader {
     Reader {
         at: 0,
         end: 0,
@@ -28,7 +28,7 @@ pub fn start() -> Reader {
 }
 
 // A line that is no case. Nothing more is read of it but by `skip`, so that its newline is not passed unseen.
-pub fn failed(r: Reader) -> Reader {
+pub(crate) fn failed(r: Reader) -> Reader {
     let mut q = r;
     q.number = 0;
     q.valid = false;
@@ -62,14 +62,14 @@ fn next(r: Reader, block: &mut Block) -> Reader {
 }
 
 // Reads a line's first byte.
-pub fn first(r: Reader, block: &mut Block) -> Reader {
+pub(crate) fn first(r: Reader, block: &mut Block) -> Reader {
     let mut q = next(r, block);
     q.valid = true;
     q
 }
 
 // Reads the byte that has to come next.
-pub fn expect(r: Reader, block: &mut Block, byte: u8) -> Reader {
+pub(crate) fn expect(r: Reader, block: &mut Block, byte: u8) -> Reader {
     if !r.valid {
         return r;
     }
@@ -78,12 +78,12 @@ pub fn expect(r: Reader, block: &mut Block, byte: u8) -> Reader {
 }
 
 // A line's last newline was read: only now is the line a case.
-pub fn ended(r: Reader) -> Reader {
+pub(crate) fn ended(r: Reader) -> Reader {
     if r.byte == b'\n' { r } else { failed(r) }
 }
 
 // Reads on to the line's newline, or to the end of the input.
-pub fn skip(r: Reader, block: &mut Block) -> Reader {
+pub(crate) fn skip(r: Reader, block: &mut Block) -> Reader {
     let mut q = r;
     let mut turns = u64::MAX;
     while turns > 0 && q.byte != b'\n' && !q.over {
@@ -121,7 +121,7 @@ fn digits(r: Reader, block: &mut Block) -> Reader {
 }
 
 // Reads a number of at most `largest`, where the space before it was read last.
-pub fn number(r: Reader, block: &mut Block, largest: u64) -> Reader {
+pub(crate) fn number(r: Reader, block: &mut Block, largest: u64) -> Reader {
     if !(r.valid & (r.byte == b' ')) {
         return failed(r);
     }
@@ -134,7 +134,7 @@ pub fn number(r: Reader, block: &mut Block, largest: u64) -> Reader {
 }
 
 // Reads a number for each of `largest`.
-pub fn numbers(r: Reader, block: &mut Block, largest: &[u64], values: &mut [u64]) -> Reader {
+pub(crate) fn numbers(r: Reader, block: &mut Block, largest: &[u64], values: &mut [u64]) -> Reader {
     let mut q = r;
     let mut i = 0;
     while i < largest.len() && i < values.len() {

@@ -14,7 +14,7 @@ fn fill(words: &mut [u16], word: u16) {
 }
 
 // Makes every point 0.
-pub fn clear(points: &mut [u32]) {
+pub(crate) fn clear(points: &mut [u32]) {
     let mut i = 0;
     while i < points.len() {
         points[i] = 0;
@@ -53,7 +53,7 @@ fn pairs(
 }
 
 // Reads a memory of one word everywhere but for the pairs, twice: `before` is what the run's changes are told by.
-pub fn read(
+pub(crate) fn read(
     r: Reader,
     block: &mut Block,
     word: u16,
@@ -71,7 +71,7 @@ fn write_point(point: u32, out: &mut Block, place: usize) -> usize {
 }
 
 // Writes the first `count` points.
-pub fn write_points(points: &[u32], count: usize, out: &mut Block, place: usize) -> usize {
+pub(crate) fn write_points(points: &[u32], count: usize, out: &mut Block, place: usize) -> usize {
     let mut at = output::text(b" P", out, place);
     let mut i = 0;
     while i < count && i < points.len() {
@@ -91,7 +91,7 @@ fn write_word(address: usize, old: u16, new: u16, out: &mut Block, place: usize)
 }
 
 // Writes the words that the run changed.
-pub fn write_memory(memory: &[u16], before: &[u16], out: &mut Block, place: usize) -> usize {
+pub(crate) fn write_memory(memory: &[u16], before: &[u16], out: &mut Block, place: usize) -> usize {
     let mut at = output::text(b" M", out, place);
     let mut i = 0;
     while i < memory.len() && i < before.len() {

@@ -3,7 +3,7 @@ use crate::Block;
 use crate::SIZE;
 
 // Writes what waits.
-pub fn flush(out: &Block, place: usize) {
+pub(crate) fn flush(out: &Block, place: usize) {
     let all: &[u8] = out;
     if place <= all.len() {
         io::write_all(libc::STDOUT_FILENO, &all[..place]);
@@ -11,7 +11,7 @@ pub fn flush(out: &Block, place: usize) {
 }
 
 // Puts a byte, and writes the block that it fills.
-pub fn put(byte: u8, out: &mut Block, place: usize) -> usize {
+pub(crate) fn put(byte: u8, out: &mut Block, place: usize) -> usize {
     // Never 4,096 or more; the remainder spares every caller to say so.
     let at = place % SIZE;
     out[at] = byte;
@@ -24,7 +24,7 @@ pub fn put(byte: u8, out: &mut Block, place: usize) -> usize {
 }
 
 // Puts bytes as they are.
-pub fn text(bytes: &[u8], out: &mut Block, place: usize) -> usize {
+pub(crate) fn text(bytes: &[u8], out: &mut Block, place: usize) -> usize {
     let mut at = place;
     let mut i = 0;
     while i < bytes.len() {
@@ -35,7 +35,7 @@ pub fn text(bytes: &[u8], out: &mut Block, place: usize) -> usize {
 }
 
 // Puts a space and a number.
-pub fn number(value: u64, out: &mut Block, place: usize) -> usize {
+pub(crate) fn number(value: u64, out: &mut Block, place: usize) -> usize {
     let at = put(b' ', out, place);
     let mut digits = [0u8; 20];
     let count = io::decimal(value, &mut digits);
@@ -43,7 +43,7 @@ pub fn number(value: u64, out: &mut Block, place: usize) -> usize {
 }
 
 // Puts a space and a number for each of `values`.
-pub fn numbers(values: &[u64], out: &mut Block, place: usize) -> usize {
+pub(crate) fn numbers(values: &[u64], out: &mut Block, place: usize) -> usize {
     let mut at = place;
     let mut i = 0;
     while i < values.len() {

@@ -141,7 +141,7 @@ fn lend(
 }
 
 // Reads the rest of the case, behind its first byte, and answers it.
-pub fn answer(
+pub(crate) fn answer(
     r: Reader,
     block: &mut Block,
     memory: &mut Memory,

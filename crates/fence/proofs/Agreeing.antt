@@ -13,12 +13,13 @@ use Rattle.addresses.specs.declared.DisplayAddress.{DisplayAddress}
 use Rattle.registers.specs.declared.Registers.{Registers}
 use Rattle.loan.specs.declared.Loan.{Loan}
 use Rattle.loan.specs.Loan.{mayFetch}
-use Rattle.beats.specs.declared.Got.{Got}
-use Rattle.beats.specs.declared.Got.the-variants.{Word, Not}
-use Rattle.beats.specs.declared.Stores.{Stores}
-use Rattle.beats.specs.declared.Stores.the-variants.{Nowhere, Two}
-use Rattle.beats.specs.declared.Why.the-variants.{Fetch, Wide}
-use Rattle.beats.specs.OneTurn.{Beat, fetch, act, rest, Turn, Fails, Rests, Does, got, onGot, walk, beat, points, turn}
+use Rattle.touches.specs.declared.Got.{Got}
+use Rattle.touches.specs.declared.Got.the-variants.{Word, Not}
+use Rattle.touches.specs.declared.Stores.{Stores}
+use Rattle.touches.specs.declared.Stores.the-variants.{Nowhere, Two}
+use Rattle.touches.specs.declared.Why.the-variants.{Fetch, Wide}
+use Rattle.touches.specs.Touches.{Beat, fetch, act, rest, Turn, Fails, Rests, Does, got, onGot, walk}
+use Rattle.beats.specs.OneTurn.{beat, points, turn}
 use Rattle.machine.specs.declared.Ending.{Ending}
 use Rattle.machine.specs.declared.Ending.the-variants.{NotRunning, BudgetSpent, Failed}
 use Rattle.machine.specs.declared.Halt.{Halt}

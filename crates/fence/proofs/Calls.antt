@@ -16,7 +16,8 @@ use Rattle.registers.specs.Registers.{inRange}
 use Rattle.loan.specs.declared.Loan.{Loan}
 use Rattle.loan.specs.Loan.{mayStore, fairLoan, all}
 use Rattle.loan.proofs.Touches.{fair}
-use Rattle.beats.specs.OneTurn.{Turn, Fails, Rests, Does, points, turn}
+use Rattle.touches.specs.Touches.{Turn, Fails, Rests, Does}
+use Rattle.beats.specs.OneTurn.{points, turn}
 use Rattle.machine.specs.declared.Ending.{Ending}
 use Rattle.machine.specs.declared.Answer.the-variants.{Refused, Ended}
 use Rattle.machine.specs.declared.Halt.{Halt}

@@ -15,15 +15,16 @@ use Rattle.loan.specs.Loan.{mayFetch, mayStore, Fair, all}
 use Rattle.loan.proofs.Touches.{may-fetch-all, may-store-all}
 use Rattle.moves.specs.declared.Stop.{Stop}
 use Rattle.moves.specs.declared.Stop.the-variants.{On, Internal, Edge}
-use Rattle.beats.specs.declared.Act.{Act}
-use Rattle.beats.specs.declared.Got.the-variants.{Word, Not}
-use Rattle.beats.specs.declared.Resting.{Resting}
-use Rattle.beats.specs.declared.Resting.the-variants.{External, Unusable}
-use Rattle.beats.specs.declared.Stores.{Stores}
-use Rattle.beats.specs.declared.Stores.the-variants.{Nowhere, Two}
-use Rattle.beats.specs.declared.Why.{Why}
-use Rattle.beats.specs.declared.Why.the-variants.{Fetch, Store, Wide, Full}
-use Rattle.beats.specs.OneTurn.{Beat, fetch, act, rest, Turn, Fails, Rests, Does, got, onGot, storing, walk, beat, points, roomFor, turn}
+use Rattle.touches.specs.declared.Act.{Act}
+use Rattle.touches.specs.declared.Got.the-variants.{Word, Not}
+use Rattle.touches.specs.declared.Resting.{Resting}
+use Rattle.touches.specs.declared.Resting.the-variants.{External, Unusable}
+use Rattle.touches.specs.declared.Stores.{Stores}
+use Rattle.touches.specs.declared.Stores.the-variants.{Nowhere, Two}
+use Rattle.touches.specs.declared.Why.{Why}
+use Rattle.touches.specs.declared.Why.the-variants.{Fetch, Store, Wide, Full}
+use Rattle.touches.specs.Touches.{Beat, fetch, act, rest, Turn, Fails, Rests, Does, got, onGot, storing, walk}
+use Rattle.beats.specs.OneTurn.{beat, points, roomFor, turn}
 use Rattle.machine.specs.declared.Ending.{Ending}
 use Rattle.machine.specs.declared.Ending.the-variants.{NotRunning, InternalStop, EdgeStop, Failed}
 use Rattle.machine.specs.declared.Halt.{Halt}

@@ -12,12 +12,13 @@ use Rattle.addresses.specs.Addresses.{address}
 use Rattle.registers.specs.declared.Registers.{Registers}
 use Rattle.loan.specs.declared.Loan.{Loan}
 use Rattle.loan.specs.Loan.{mayStore}
-use Rattle.beats.specs.declared.Act.{Act}
-use Rattle.beats.specs.declared.Got.{Got}
-use Rattle.beats.specs.declared.Got.the-variants.{Word, Not}
-use Rattle.beats.specs.declared.Stores.{Stores}
-use Rattle.beats.specs.declared.Stores.the-variants.{Nowhere, Two}
-use Rattle.beats.specs.OneTurn.{Beat, fetch, act, rest, Turn, Fails, Rests, Does, got, onGot, storing, walk, beat, points, roomFor, turn}
+use Rattle.touches.specs.declared.Act.{Act}
+use Rattle.touches.specs.declared.Got.{Got}
+use Rattle.touches.specs.declared.Got.the-variants.{Word, Not}
+use Rattle.touches.specs.declared.Stores.{Stores}
+use Rattle.touches.specs.declared.Stores.the-variants.{Nowhere, Two}
+use Rattle.touches.specs.Touches.{Beat, fetch, act, rest, Turn, Fails, Rests, Does, got, onGot, storing, walk}
+use Rattle.beats.specs.OneTurn.{beat, points, roomFor, turn}
 use Rattle.machine.specs.declared.Halt.{Halt}
 use Rattle.machine.specs.declared.Halt.the-variants.{Goes, Ends}
 use Rattle.machine.specs.Runs.{stored, halted, Run, Go, follow, onward, run, entered}

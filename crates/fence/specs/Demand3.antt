@@ -9,9 +9,10 @@ use Rattle.addresses.specs.declared.DisplayAddress.{DisplayAddress}
 use Rattle.registers.specs.declared.Registers.{Registers}
 use Rattle.loan.specs.declared.Loan.{Loan}
 use Rattle.loan.specs.Loan.{mayFetch, mayStore, Fair, all}
-use Rattle.beats.specs.declared.Why.{Why}
-use Rattle.beats.specs.declared.Why.the-variants.{Fetch, Store, Wide, Full}
-use Rattle.beats.specs.OneTurn.{Fails, turn}
+use Rattle.touches.specs.declared.Why.{Why}
+use Rattle.touches.specs.declared.Why.the-variants.{Fetch, Store, Wide, Full}
+use Rattle.touches.specs.Touches.{Fails}
+use Rattle.beats.specs.OneTurn.{turn}
 use Rattle.machine.specs.declared.Ending.{Ending}
 use Rattle.machine.specs.declared.Ending.the-variants.{NotRunning, BudgetSpent, InternalStop, ExternalStop, EdgeStop, UnusableMode, Failed}
 use Rattle.machine.specs.declared.Answer.the-variants.{Ended}

@@ -12,7 +12,8 @@ use Rattle.registers.proofs.InRange.{good, formed}
 use Rattle.loan.specs.declared.Loan.{Loan}
 use Rattle.loan.specs.Loan.{fairLoan, Fair}
 use Rattle.loan.proofs.Touches.{fair}
-use Rattle.beats.specs.OneTurn.{Turn, Fails, Rests, Does, points, turn}
+use Rattle.touches.specs.Touches.{Turn, Fails, Rests, Does}
+use Rattle.beats.specs.OneTurn.{points, turn}
 use Rattle.beats.proofs.Fine.{FineTurn, turn-fine}
 use Rattle.machine.specs.declared.Halt.{Halt}
 use Rattle.machine.specs.declared.Halt.the-variants.{Goes, Ends}

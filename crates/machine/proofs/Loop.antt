@@ -14,13 +14,14 @@ use Rattle.registers.specs.Registers.{GoodMotion, Good}
 use Rattle.moves.specs.DataWords.{GoodLineIn}
 use Rattle.loan.specs.declared.Loan.{Loan}
 use Rattle.loan.specs.Loan.{Fair}
-use Rattle.beats.specs.declared.Act.{Act}
-use Rattle.beats.specs.declared.Stores.{Stores}
-use Rattle.beats.specs.declared.Stores.the-variants.{Nowhere, Two}
-use Rattle.beats.specs.declared.Resting.{Resting}
-use Rattle.beats.specs.declared.Resting.the-variants.{External, Unusable}
-use Rattle.beats.specs.declared.Why.{Why}
-use Rattle.beats.specs.OneTurn.{Fails, Rests, Does, points, turn}
+use Rattle.touches.specs.declared.Act.{Act}
+use Rattle.touches.specs.declared.Stores.{Stores}
+use Rattle.touches.specs.declared.Stores.the-variants.{Nowhere, Two}
+use Rattle.touches.specs.declared.Resting.{Resting}
+use Rattle.touches.specs.declared.Resting.the-variants.{External, Unusable}
+use Rattle.touches.specs.declared.Why.{Why}
+use Rattle.touches.specs.Touches.{Fails, Rests, Does}
+use Rattle.beats.specs.OneTurn.{points, turn}
 use Rattle.beats.proofs.Fine.{Fine, turn-fine}
 use Rattle.machine.specs.declared.Ending.{Ending}
 use Rattle.machine.specs.declared.Ending.the-variants.{BudgetSpent, Failed}

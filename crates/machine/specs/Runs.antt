@@ -14,14 +14,15 @@ use Rattle.moves.specs.declared.Stop.{Stop}
 use Rattle.moves.specs.declared.Stop.the-variants.{On, Internal, Edge}
 use Rattle.loan.specs.declared.Loan.{Loan}
 use Rattle.loan.specs.Loan.{fairLoan}
-use Rattle.beats.specs.declared.Act.{Act}
-use Rattle.beats.specs.declared.Stores.{Stores}
-use Rattle.beats.specs.declared.Stores.the-variants.{Nowhere, Two}
-use Rattle.beats.specs.declared.Resting.{Resting}
-use Rattle.beats.specs.declared.Resting.the-variants.{External, Unusable}
-use Rattle.beats.specs.declared.Why.{Why}
-use Rattle.beats.specs.declared.Why.the-variants.{Fetch, Store, Wide, Full}
-use Rattle.beats.specs.OneTurn.{Turn, Fails, Rests, Does, points, turn}
+use Rattle.touches.specs.declared.Act.{Act}
+use Rattle.touches.specs.declared.Stores.{Stores}
+use Rattle.touches.specs.declared.Stores.the-variants.{Nowhere, Two}
+use Rattle.touches.specs.declared.Resting.{Resting}
+use Rattle.touches.specs.declared.Resting.the-variants.{External, Unusable}
+use Rattle.touches.specs.declared.Why.{Why}
+use Rattle.touches.specs.declared.Why.the-variants.{Fetch, Store, Wide, Full}
+use Rattle.touches.specs.Touches.{Turn, Fails, Rests, Does}
+use Rattle.beats.specs.OneTurn.{points, turn}
 use Rattle.machine.specs.declared.Ending.{Ending}
 use Rattle.machine.specs.declared.Ending.the-variants.{NotRunning, BudgetSpent, InternalStop, ExternalStop, EdgeStop, UnusableMode, Failed}
 use Rattle.machine.specs.declared.Halt.{Halt}

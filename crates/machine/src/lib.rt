@@ -5,18 +5,18 @@ ghost use lib.ListN.{length};
 ghost use lib.Seq.{sets};
 ghost use Rattle.registers.specs.Registers.{Good};
 ghost use Rattle.loan.specs.Loan.{Fair};
+ghost use Rattle.touches.proofs.Fine.{Inside};
 ghost use Rattle.beats.specs.OneTurn.{points as pointsOf};
-ghost use Rattle.beats.proofs.Fine.{Inside};
 ghost use Rattle.machine.specs.Runs.{stored, rested, restEnding, halted, refusedRun, run as runOf, left, leaves, entered, call, whyNumber, endingNumber, numbered, KeepsInRange};
-use beats::Resting;
-use beats::Stores;
-use beats::Turn;
-use beats::Why;
 use loan::Loan;
 use moves::Lit;
 use moves::Stop;
 use registers::Base;
 use registers::Registers;
+use touches::Resting;
+use touches::Stores;
+use touches::Turn;
+use touches::Why;
 
 // How a run ended. What could not be made says why, with the address of the touch.
 pub enum Ending {

@@ -2,7 +2,8 @@
 use borrow.Author.Needs.{needs}
 use mathlib.Core.Path.{sym, ap, _∙_}
 use denote.Ref.{now}
-use Rattle.beats.specs.OneTurn.{storing, walk, beatBy}
+use Rattle.touches.specs.Touches.{storing, walk}
+use Rattle.beats.specs.OneTurn.{beatBy}
 use Rattle.beats.proofs.beat.Statement.{statement}
 use Rattle.beats.proofs.beat.Tie as tie
 

@@ -5,7 +5,8 @@ use mathlib.Core.Path.{ap}
 use lib.Dec.{eqb}
 use borrow.Author.Tests.{ne-eqb}
 use Rattle.words.specs.Words.{pick}
-use Rattle.beats.specs.OneTurn.{storing, walk, dataBeat}
+use Rattle.touches.specs.Touches.{storing, walk}
+use Rattle.beats.specs.OneTurn.{dataBeat}
 use Rattle.beats.proofs.data_beat.Statement.{statement}
 use Rattle.beats.proofs.data_beat.Tie as tie
 

@@ -3,8 +3,10 @@ use borrow.Author.Needs.{needs}
 use mathlib.Core.Path.{refl, sym, _∙_}
 use denote.Ref.{now}
 use Rattle.words.specs.Words.{pick}
-use Rattle.beats.specs.OneTurn.{walk, commandBeat}
-use Rattle.beats.proofs.Walk.{walk-idle, walk-word, walk-not}
+use Rattle.touches.specs.Touches.{walk}
+use Rattle.touches.proofs.Walk.{walk-word, walk-not}
+use Rattle.beats.specs.OneTurn.{commandBeat}
+use Rattle.beats.proofs.Walk.{walk-idle}
 use Rattle.beats.proofs.idle_beat.Statement.{statement}
 use Rattle.beats.proofs.idle_beat.Tie as tie
 

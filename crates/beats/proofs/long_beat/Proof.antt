@@ -4,8 +4,9 @@ use mathlib.Core.Path.{sym, ap, _∙_}
 use denote.Ref.{now}
 use borrow.Author.Tests.{eq-eqb, ne-eqb}
 use Rattle.words.specs.Words.{pick}
-use Rattle.beats.specs.OneTurn.{got, storing, walk, longer, longBeat}
-use Rattle.beats.proofs.Walk.{walk-word, walk-not}
+use Rattle.touches.specs.Touches.{got, storing, walk}
+use Rattle.touches.proofs.Walk.{walk-word, walk-not}
+use Rattle.beats.specs.OneTurn.{longer, longBeat}
 use Rattle.beats.proofs.long_beat.Statement.{statement}
 use Rattle.beats.proofs.long_beat.Tie as tie
 

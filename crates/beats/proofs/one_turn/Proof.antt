@@ -4,7 +4,8 @@ use mathlib.Core.Path.{sym, ap, _∙_}
 use lib.Dec.{leb·zero}
 use borrow.Author.Tests.{le-leb, lt-leb}
 use Rattle.words.specs.Words.{pick}
-use Rattle.beats.specs.OneTurn.{turn, roomFor, said}
+use Rattle.touches.specs.Touches.{said}
+use Rattle.beats.specs.OneTurn.{turn, roomFor}
 use Rattle.beats.proofs.one_turn.Statement.{statement}
 use Rattle.beats.proofs.one_turn.Tie as tie
 

@@ -6,7 +6,8 @@ use native.Mathlib.Omega.{arith}
 use lib.ListN.{length}
 use borrow.Author.Needs.{needs}
 use denote.Ref.{now}
-use Rattle.beats.specs.OneTurn.{Does, whole, said, turn}
+use Rattle.touches.specs.Touches.{Does, whole, said}
+use Rattle.beats.specs.OneTurn.{turn}
 use Rattle.machine.specs.Runs.{run}
 use Rattle.machine.proofs.Loop.{Far, good-line-in, start, length-drawn, shows, spends, fails, rests, fine, goes, stops}
 use Rattle.machine.proofs.go.Statement.{statement}

@@ -9,7 +9,9 @@ use Rattle.skips.specs.ControlWords.{skipping, skips, changed, withByte, button
 use Rattle.moves.specs.DataWords.{litAt, arrived, lineNext, lineMove, byteNext, byteMove, nextMove, ended, displaced}
 use Rattle.drawing.specs.DataWords.{increment, vectorLine, shortLine, begun, vector, shortVector}
 use Rattle.loan.specs.Loan.{within, mayFetch, mayStore}
-use Rattle.beats.specs.OneTurn.{got, storing, walk, pushAct, jumpBeat, controlBeat, longBeat, dataBeat, commandBeat, unusable, idleBeat, roomFor, turn}
+use Rattle.touches.specs.Touches.{got, storing, walk}
+use Rattle.control_beats.specs.ControlWords.{pushAct, jumpBeat, controlBeat}
+use Rattle.beats.specs.OneTurn.{longBeat, dataBeat, commandBeat, unusable, idleBeat, roomFor, turn}
 use Rattle.machine.specs.Runs.{halted, run, entered, endingNumber}
 use Rattle.sheet.specs.Sheet.{sheet, agrees, wrong, sameList, offsetsFrom, loaded}
 use Rattle.sheet.proofs.checked.Statement.{statement}

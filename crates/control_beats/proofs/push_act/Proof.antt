@@ -1,8 +1,8 @@
--- `beats::push_act` meets its promise: the parts are the callees'. Assumes nothing.
+-- `control_beats::push_act` meets its promise: the parts are the callees'. Assumes nothing.
 use borrow.Author.Needs.{needs}
-use Rattle.beats.specs.OneTurn.{pushAct}
-use Rattle.beats.proofs.push_act.Statement.{statement}
-use Rattle.beats.proofs.push_act.Tie as tie
+use Rattle.control_beats.specs.ControlWords.{pushAct}
+use Rattle.control_beats.proofs.push_act.Statement.{statement}
+use Rattle.control_beats.proofs.push_act.Tie as tie
 
 pub push-act-spec : {M : Type 1} → statement M
 unfolding pushAct

@@ -1,11 +1,11 @@
--- `beats::miscellaneous` meets its promise: each arm is a case of the definition. Assumes nothing.
+-- `control_beats::miscellaneous` meets its promise: each arm is a case of the definition. Assumes nothing.
 use borrow.Author.Needs.{needs}
 use mathlib.Core.Path.{sym, _∙_}
 use borrow.Author.Tests.{ne-eqb}
 use Rattle.words.specs.Words.{pick}
-use Rattle.beats.specs.OneTurn.{miscellaneous}
-use Rattle.beats.proofs.miscellaneous.Statement.{statement}
-use Rattle.beats.proofs.miscellaneous.Tie as tie
+use Rattle.control_beats.specs.ControlWords.{miscellaneous}
+use Rattle.control_beats.proofs.miscellaneous.Statement.{statement}
+use Rattle.control_beats.proofs.miscellaneous.Tie as tie
 
 pub miscellaneous-spec : {M : Type 1} → statement M
 unfolding miscellaneous pick

@@ -1,12 +1,13 @@
--- `beats::jump_beat` meets its promise: the second word is fetched, then bit 8 picks. Assumes nothing.
+-- `control_beats::jump_beat` meets its promise: the second word is fetched, then bit 8 picks. Assumes nothing.
 use borrow.Author.Needs.{needs}
 use mathlib.Core.Path.{sym, ap, _∙_}
 use denote.Ref.{now}
 use Rattle.words.specs.Words.{pick}
-use Rattle.beats.specs.OneTurn.{got, storing, walk, jumped, jumpBeat}
-use Rattle.beats.proofs.Walk.{walk-word, walk-not}
-use Rattle.beats.proofs.jump_beat.Statement.{statement}
-use Rattle.beats.proofs.jump_beat.Tie as tie
+use Rattle.touches.specs.Touches.{got, storing, walk}
+use Rattle.touches.proofs.Walk.{walk-word, walk-not}
+use Rattle.control_beats.specs.ControlWords.{jumped, jumpBeat}
+use Rattle.control_beats.proofs.jump_beat.Statement.{statement}
+use Rattle.control_beats.proofs.jump_beat.Tie as tie
 
 pub jump-beat-spec : {M : Type 1} → statement M
 unfolding jumpBeat walk storing pick

@@ -1,12 +1,13 @@
--- `beats::pop_beat` meets its promise: the two words are fetched in order. Assumes nothing.
+-- `control_beats::pop_beat` meets its promise: the two words are fetched in order. Assumes nothing.
 use borrow.Author.Needs.{needs}
-use mathlib.Core.Path.{sym, ap, _∙_}
+use mathlib.Core.Path.{refl, sym, ap, _∙_}
 use denote.Ref.{now}
 use Rattle.addresses.specs.Addresses.{fieldZero}
-use Rattle.beats.specs.OneTurn.{got, popped, popBeat}
-use Rattle.beats.proofs.Walk.{walk-word, walk-not, walk-acted}
-use Rattle.beats.proofs.pop_beat.Statement.{statement}
-use Rattle.beats.proofs.pop_beat.Tie as tie
+use Rattle.touches.specs.Touches.{got}
+use Rattle.touches.proofs.Walk.{walk-word, walk-not, walk-act}
+use Rattle.control_beats.specs.ControlWords.{popped, popBeat}
+use Rattle.control_beats.proofs.pop_beat.Statement.{statement}
+use Rattle.control_beats.proofs.pop_beat.Tie as tie
 
 pub pop-beat-spec : {M : Type 1} → statement M
 unfolding popBeat
@@ -30,7 +31,7 @@ pop-beat-spec =
     let next = c .before .before .before .before .before .before .before .before .before .before .in-field-zero2 .ensures ∙ ap fieldZero (c .before .before .before .before .before .before .before .before .before .before .before .before3 .ensures) in
     let got-at = c .before .before .before .before .before .before .before .before .before .fetch .ensures ∙ ap (got (a .l) (now (a .memory))) at in
     let got-next = c .before .before .before .before .before .fetch2 .ensures ∙ ap (got (a .l) (now (a .memory))) next in
-    rw (c .acted .ensures, c .before .pop .ensures) (sym (walk-word (a .l) (now (a .memory)) _ (popped (a .b) (a .word)) got-at (c .before .before .before .before .before .before .before .first .given .1) ∙ walk-word (a .l) (now (a .memory)) _ _ got-next (c .before .before .before .second .given .1) ∙ walk-acted _ _ _ _)))
+    rw (c .acted .ensures, c .before .pop .ensures) (sym (walk-word (a .l) (now (a .memory)) _ (popped (a .b) (a .word)) got-at (c .before .before .before .before .before .before .before .first .given .1) ∙ walk-word (a .l) (now (a .memory)) _ _ got-next (c .before .before .before .second .given .1) ∙ walk-act _ _ _ refl)))
     (λ c. let a = c .before .before .before .before .before .before .before .before .before .before .before .before .before .args in
     let at = c .before .before .before .before .before .before .before .before .before .before .in-field-zero .ensures ∙ ap fieldZero (c .before .before .before .before .before .before .before .before .before .before .before .before2 .ensures) in
     let next = c .before .before .before .before .before .before .before .before .in-field-zero2 .ensures ∙ ap fieldZero (c .before .before .before .before .before .before .before .before .before .before3 .ensures) in
@@ -39,6 +40,5 @@ pop-beat-spec =
     sym (walk-word (a .l) (now (a .memory)) _ (popped (a .b) (a .word)) got-at (c .before .before .before .before .before .first .given .1) ∙ walk-not (a .l) (now (a .memory)) _ _ got-next (c .before .why .given .1)))
     (λ c. let a = c .before .before .before .before .before .before .before .before .before .args in
     let at = c .before .before .before .before .before .before .in-field-zero .ensures ∙ ap fieldZero (c .before .before .before .before .before .before .before .before2 .ensures) in
-    let next = c .before .before .before .before .in-field-zero2 .ensures ∙ ap fieldZero (c .before .before .before .before .before .before3 .ensures) in
     let got-at = c .before .before .before .fetch .ensures ∙ ap (got (a .l) (now (a .memory))) at in
     sym (walk-not (a .l) (now (a .memory)) _ (popped (a .b) (a .word)) got-at (c .before .why2 .given .1))))

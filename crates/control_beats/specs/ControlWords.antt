@@ -1,0 +1,64 @@
+-- Section 'Control words' of 01, with their touches of 'One turn of a run': the beat of each control word. What the words set is in control's and skips'
+-- files of this name. Assumes nothing.
+use Prim.Native.Nat.{ℕ}
+use mathlib.Core.Bool.{true, false}
+use lib.Dec.{eqb}
+use Rattle.words.specs.Words.{bit, bits, pick}
+use Rattle.addresses.specs.Addresses.{addressAfter, pointerAfter, pointerBefore, fieldZero}
+use Rattle.registers.specs.declared.Base.{Base}
+use Rattle.registers.specs.declared.Motion.the-variants.{Nothing}
+use Rattle.control.specs.ControlWords.{parameter, mode, jump, push, pushedFirst, pushedSecond, pop}
+use Rattle.skips.specs.ControlWords.{buttonSkip, compare, flagSkip, count, sync, skipping}
+use Rattle.moves.specs.declared.Lit.the-variants.{Dark}
+use Rattle.moves.specs.declared.Stop.{Stop}
+use Rattle.moves.specs.declared.Stop.the-variants.{On, Internal}
+use Rattle.touches.specs.declared.Act.{Act}
+use Rattle.touches.specs.declared.Stores.the-variants.{Nowhere, Two}
+use Rattle.touches.specs.Touches.{Beat, fetch, act}
+
+-- a control word that stores nothing
+abbrev pub acted : Base → Stop → Act
+acted b stop = record { registers = record { base = b; motion = Nothing }; stores = Nowhere; lit = Dark; stop = stop }
+
+-- a push jump writes at the pointer and pointer+1
+unfoldable pub pushAct : Base → ℕ → ℕ → Act
+pushAct b w v =
+    record {
+      registers = record { base = push b w v; motion = Nothing };
+      stores = Two (fieldZero (b .pointer)) (pushedFirst b) (fieldZero (pointerAfter (b .pointer) 1)) (pushedSecond b);
+      lit = Dark;
+      stop = On;
+    }
+
+-- 2: its words are at the display address and the next; bit 8 pushes
+abbrev pub jumped : Base → ℕ → ℕ → Beat
+jumped b w v = act (pick (bit w 8) (pushAct b w v) (acted (jump b w v) On))
+
+unfoldable pub jumpBeat : Base → ℕ → Beat
+jumpBeat b w = fetch (addressAfter (b .address) 1) (jumped b w)
+
+-- 3: a pop fetches at pointer-2 and pointer-1
+abbrev pub popped : Base → ℕ → ℕ → Beat
+popped b w first = fetch (fieldZero (pointerBefore (b .pointer) 1)) (λ second. act (acted (pop b w first second) On))
+
+unfoldable pub popBeat : Base → ℕ → Beat
+popBeat b w = fetch (fieldZero (pointerBefore (b .pointer) 2)) (popped b w)
+
+-- 60 to 63; the slave words 64 to 67 do nothing
+unfoldable pub miscellaneous : Base → ℕ → Base
+miscellaneous b w =
+    let kind = bits w 3 5 in
+    pick (eqb kind 0) (compare b w false)
+    (pick (eqb kind 1) (compare b w true) (pick (eqb kind 2) (flagSkip b w) (pick (eqb kind 3) (count b w) (skipping b false))))
+
+-- a control word by its operation code, bits 0 to 2
+unfoldable pub controlBeat : Base → ℕ → Beat
+controlBeat b w =
+    let operation = bits w 0 2 in
+    pick (eqb operation 0) (act (acted (parameter b w) On))
+    (pick (eqb operation 1) (act (acted (mode b w) (pick (bit w 3) Internal On)))
+    (pick (eqb operation 2) (jumpBeat b w)
+    (pick (eqb operation 3) (popBeat b w)
+    (pick (eqb operation 4) (act (acted (buttonSkip b w false) On))
+    (pick (eqb operation 5) (act (acted (buttonSkip b w true) On))
+    (pick (eqb operation 6) (act (acted (miscellaneous b w) On)) (act (acted (sync b w) On))))))))

@@ -1,0 +1,128 @@
+// The beats of control words: the touches of each in order, then what it does.
+ghost use mathlib.Core.Path.{_≡_};
+ghost use lib.ListN.{length};
+ghost use Rattle.loan.specs.Loan.{Fair};
+ghost use Rattle.moves.specs.declared.Stop.the-variants.{On, Internal};
+ghost use Rattle.words.specs.Words.{pick};
+ghost use Rattle.touches.specs.Touches.{walk, said};
+ghost use Rattle.control_beats.specs.ControlWords.{acted, pushAct, jumpBeat, popBeat, miscellaneous, controlBeat};
+use loan::Loan;
+use moves::Lit;
+use moves::Stop;
+use registers::Base;
+use registers::Motion;
+use registers::Registers;
+use touches::Act;
+use touches::Got;
+use touches::Stores;
+use touches::Turn;
+
+fn internal_if(on: bool) -> Stop
+    ensures { λ r. ⌜ r ≡ pick on Internal On ⌝ }
+{
+    if on { Stop::Internal } else { Stop::On }
+}
+
+// A control word that stores nothing.
+fn acted(base: Base, stop: Stop) -> Act
+    ensures { λ r. ⌜ r ≡ acted base stop ⌝ }
+{
+    let registers = Registers {
+        base,
+        motion: Motion::Nothing,
+    };
+    Act {
+        registers,
+        stores: Stores::Nowhere,
+        lit: Lit::Dark,
+        stop,
+    }
+}
+
+fn push_act(b: Base, word: u16, second: u16) -> Act
+    ensures { λ r. ⌜ r ≡ pushAct b word second ⌝ }
+{
+    let base = control::push(b, word, second);
+    let registers = Registers {
+        base,
+        motion: Motion::Nothing,
+    };
+    let at = b.pointer.in_field_zero();
+    let next = b.pointer.after(1).in_field_zero();
+    let stores = Stores::Two {
+        at,
+        word: control::pushed_first(b),
+        next,
+        second: control::pushed_second(b),
+    };
+    Act {
+        registers,
+        stores,
+        lit: Lit::Dark,
+        stop: Stop::On,
+    }
+}
+
+// 2: a jump, or a push.
+fn jump_beat(b: Base, word: u16, l: Loan, memory: &[u16]) -> Turn
+    requires { ⌜ (length (now memory) ≡ 32768) × Fair l ⌝ }
+    ensures { λ r. ⌜ said r ≡ walk l (now (memory .entry)) (jumpBeat b word) ⌝ }
+{
+    match touches::fetch(l, memory, b.address.after(1)) {
+        Got::Word(second) => {
+            if words::bit(word, 8) {
+                touches::allowed(l, push_act(b, word, second))
+            } else {
+                Turn::Does(acted(control::jump(b, word, second), Stop::On))
+            }
+        }
+        Got::Not(why) => Turn::Fails(why),
+    }
+}
+
+// 3: a pop.
+fn pop_beat(b: Base, word: u16, l: Loan, memory: &[u16]) -> Turn
+    requires { ⌜ (length (now memory) ≡ 32768) × Fair l ⌝ }
+    ensures { λ r. ⌜ said r ≡ walk l (now (memory .entry)) (popBeat b word) ⌝ }
+{
+    let at = b.pointer.before(2).in_field_zero();
+    let next = b.pointer.before(1).in_field_zero();
+    match touches::fetch(l, memory, at) {
+        Got::Word(first) => match touches::fetch(l, memory, next) {
+            Got::Word(second) => Turn::Does(acted(control::pop(b, word, first, second), Stop::On)),
+            Got::Not(why) => Turn::Fails(why),
+        },
+        Got::Not(why) => Turn::Fails(why),
+    }
+}
+
+// 6: the words 60 to 67. The slave words 64 to 67 do nothing.
+fn miscellaneous(b: Base, word: u16) -> Base
+    ensures { λ r. ⌜ r ≡ miscellaneous b word ⌝ }
+{
+    let kind = words::bits(word, 3, 5);
+    match kind {
+        0 => skips::compare(b, word, false),
+        1 => skips::compare(b, word, true),
+        2 => skips::flag_skip(b, word),
+        3 => skips::count(b, word),
+        _ => skips::passed(b),
+    }
+}
+
+pub fn control_beat(b: Base, word: u16, l: Loan, memory: &[u16]) -> Turn
+    requires { ⌜ (length (now memory) ≡ 32768) × Fair l ⌝ }
+    ensures { λ r. ⌜ said r ≡ walk l (now (memory .entry)) (controlBeat b word) ⌝ }
+{
+    let operation = words::bits(word, 0, 2);
+    match operation {
+        0 => Turn::Does(acted(control::parameter(b, word), Stop::On)),
+        1 => Turn::Does(acted(control::mode(b, word), internal_if(words::bit(word, 3)))),
+        2 => jump_beat(b, word, l, memory),
+        3 => pop_beat(b, word, l, memory),
+        4 => Turn::Does(acted(skips::button_skip(b, word, false), Stop::On)),
+        5 => Turn::Does(acted(skips::button_skip(b, word, true), Stop::On)),
+        6 => Turn::Does(acted(miscellaneous(b, word), Stop::On)),
+        _ => Turn::Does(acted(skips::sync(b, word), Stop::On)),
+    }
+}

@@ -3,10 +3,11 @@ ghost use mathlib.Core.Path.{_≡_};
 ghost use lib.ListN.{length};
 ghost use Rattle.loan.specs.Loan.{Fair};
 ghost use Rattle.moves.specs.DataWords.{GoodLineIn};
-ghost use Rattle.touches.specs.Touches.{walk, said};
-ghost use Rattle.beats.specs.OneTurn.{longBeat, dataBeat, unheld, commandBeat, unusable, idleBeat, beat, turn};
+ghost use Rattle.touches.specs.Touches.{Does, whole, walk, said};
+ghost use Rattle.beats.specs.OneTurn.{longBeat, dataBeat, unheld, commandBeat, unusable, idleBeat, roomFor, turn};
 use loan::Loan;
 use moves::Lit;
+use moves::Moved;
 use moves::Moving;
 use registers::Base;
 use registers::Registers;
@@ -15,33 +16,51 @@ use touches::Resting;
 use touches::Turn;
 use touches::Why;
 
+// A beat that stores nothing, if there is room for its point. Every beat asks for room where it is made: then nothing needs the registers before it any more,
+// and they can be changed in place.
+fn roomed(c: Moved, room: usize) -> Turn
+    ensures { λ r. ⌜ said r ≡ roomFor room (Does (whole c)) ⌝ }
+{
+    let lit = c.lit;
+    match lit {
+        Lit::Dark => Turn::Moves(c),
+        Lit::Point(_) => {
+            if 1 <= room {
+                Turn::Moves(c)
+            } else {
+                Turn::Fails(Why::Full)
+            }
+        }
+    }
+}
+
 // The data words of two words: a point, or a vector of either kind.
-fn long_beat(b: Base, word: u16, l: Loan, memory: &[u16]) -> Turn
+fn long_beat(b: Base, word: u16, l: Loan, memory: &[u16], room: usize) -> Turn
     requires { ⌜ (length (now memory) ≡ 32768) × Fair l ⌝ }
-    ensures { λ r. ⌜ said r ≡ walk l (now (memory .entry)) (longBeat b word) ⌝ }
+    ensures { λ r. ⌜ said r ≡ roomFor room (walk l (now (memory .entry)) (longBeat b word)) ⌝ }
 {
     match touches::fetch(l, memory, b.address.after(1)) {
         Got::Word(second) => {
             if b.mode == 0 {
-                Turn::Moves(drawing::point(b, word, second))
+                roomed(drawing::point(b, word, second), room)
             } else {
-                Turn::Moves(drawing::vector(b, word, second))
+                roomed(drawing::vector(b, word, second), room)
             }
         }
         Got::Not(why) => Turn::Fails(why),
     }
 }
 
-fn data_beat(b: Base, word: u16, l: Loan, memory: &[u16]) -> Turn
+fn data_beat(b: Base, word: u16, l: Loan, memory: &[u16], room: usize) -> Turn
     requires { ⌜ (length (now memory) ≡ 32768) × Fair l ⌝ }
-    ensures { λ r. ⌜ said r ≡ walk l (now (memory .entry)) (dataBeat b word) ⌝ }
+    ensures { λ r. ⌜ said r ≡ roomFor room (walk l (now (memory .entry)) (dataBeat b word)) ⌝ }
 {
     let mode = b.mode;
     match mode {
-        1 => Turn::Moves(drawing::increment(b, word)),
-        4 => Turn::Moves(drawing::short_vector(b, word)),
-        6 => Turn::Moves(drawing::graphplot(b, word)),
-        _ => long_beat(b, word, l, memory),
+        1 => roomed(drawing::increment(b, word), room),
+        4 => roomed(drawing::short_vector(b, word), room),
+        6 => roomed(drawing::graphplot(b, word), room),
+        _ => long_beat(b, word, l, memory, room),
     }
 }
 
@@ -56,13 +75,13 @@ fn unheld(b: Base) -> Base
     }
 }
 
-fn command_beat(b: Base, word: u16, l: Loan, memory: &[u16]) -> Turn
+fn command_beat(b: Base, word: u16, l: Loan, memory: &[u16], room: usize) -> Turn
     requires { ⌜ (length (now memory) ≡ 32768) × Fair l ⌝ }
-    ensures { λ r. ⌜ said r ≡ walk l (now (memory .entry)) (commandBeat b word) ⌝ }
+    ensures { λ r. ⌜ said r ≡ roomFor room (walk l (now (memory .entry)) (commandBeat b word)) ⌝ }
 {
     let ready = unheld(b);
     if ready.datastate {
-        data_beat(ready, word, l, memory)
+        data_beat(ready, word, l, memory, room)
     } else {
         control_beats::control_beat(ready, word, l, memory)
     }
@@ -76,9 +95,9 @@ fn unusable(b: Base) -> bool
 }
 
 // No motion: a stop request, an unusable mode, or the next command.
-fn idle_beat(b: Base, l: Loan, memory: &[u16]) -> Turn
+fn idle_beat(b: Base, l: Loan, memory: &[u16], room: usize) -> Turn
     requires { ⌜ (length (now memory) ≡ 32768) × Fair l ⌝ }
-    ensures { λ r. ⌜ said r ≡ walk l (now (memory .entry)) (idleBeat b) ⌝ }
+    ensures { λ r. ⌜ said r ≡ roomFor room (walk l (now (memory .entry)) (idleBeat b)) ⌝ }
 {
     if b.request {
         Turn::Rests(Resting::External)
@@ -86,21 +105,9 @@ fn idle_beat(b: Base, l: Loan, memory: &[u16]) -> Turn
         Turn::Rests(Resting::Unusable)
     } else {
         match touches::fetch(l, memory, b.address) {
-            Got::Word(word) => command_beat(b, word, l, memory),
+            Got::Word(word) => command_beat(b, word, l, memory, room),
             Got::Not(why) => Turn::Fails(why),
         }
-    }
-}
-
-fn beat(r: Registers, l: Loan, memory: &[u16]) -> Turn
-    requires { ⌜ (length (now memory) ≡ 32768) × Fair l × GoodLineIn (r .motion) ⌝ }
-    ensures { λ q. ⌜ said q ≡ walk l (now (memory .entry)) (beat r) ⌝ }
-{
-    let m = r.motion;
-    let b = r.base;
-    match moves::next_move(m, b.mode, b.scale) {
-        Moving::Going(v) => Turn::Moves(moves::displaced(b, v)),
-        Moving::Still => idle_beat(b, l, memory),
     }
 }
 
@@ -109,34 +116,10 @@ pub fn one_turn(r: Registers, l: Loan, memory: &[u16], room: usize) -> Turn
     requires { ⌜ (length (now memory) ≡ 32768) × Fair l × GoodLineIn (r .motion) ⌝ }
     ensures { λ q. ⌜ said q ≡ turn l room r (now (memory .entry)) ⌝ }
 {
-    match beat(r, l, memory) {
-        Turn::Fails(why) => Turn::Fails(why),
-        Turn::Rests(resting) => Turn::Rests(resting),
-        Turn::Moves(c) => {
-            let lit = c.lit;
-            match lit {
-                Lit::Dark => Turn::Moves(c),
-                Lit::Point(_) => {
-                    if 1 <= room {
-                        Turn::Moves(c)
-                    } else {
-                        Turn::Fails(Why::Full)
-                    }
-                }
-            }
-        }
-        Turn::Does(c) => {
-            let lit = c.lit;
-            match lit {
-                Lit::Dark => Turn::Does(c),
-                Lit::Point(_) => {
-                    if 1 <= room {
-                        Turn::Does(c)
-                    } else {
-                        Turn::Fails(Why::Full)
-                    }
-                }
-            }
-        }
+    let m = r.motion;
+    let b = r.base;
+    match moves::next_move(m, b.mode, b.scale) {
+        Moving::Going(v) => roomed(moves::displaced(b, v), room),
+        Moving::Still => idle_beat(b, l, memory, room),
     }
 }

@@ -12,13 +12,17 @@ use Rattle.skips.specs.ControlWords.{buttonSkip, compare, flagSkip, count, sync
 use Rattle.moves.specs.declared.Lit.the-variants.{Dark}
 use Rattle.moves.specs.declared.Stop.{Stop}
 use Rattle.moves.specs.declared.Stop.the-variants.{On, Internal}
+use Rattle.moves.specs.declared.Moved.{Moved}
 use Rattle.touches.specs.declared.Act.{Act}
-use Rattle.touches.specs.declared.Stores.the-variants.{Nowhere, Two}
-use Rattle.touches.specs.Touches.{Beat, fetch, act}
+use Rattle.touches.specs.declared.Stores.the-variants.{Two}
+use Rattle.touches.specs.Touches.{Beat, fetch, act, whole}
 
--- a control word that stores nothing
+-- a control word that stores nothing: registers, no motion, no point
+abbrev pub done : Base → Stop → Moved
+done b stop = record { registers = record { base = b; motion = Nothing }; lit = Dark; stop = stop }
+
 abbrev pub acted : Base → Stop → Act
-acted b stop = record { registers = record { base = b; motion = Nothing }; stores = Nowhere; lit = Dark; stop = stop }
+acted b stop = whole (done b stop)
 
 -- a push jump writes at the pointer and pointer+1
 unfoldable pub pushAct : Base → ℕ → ℕ → Act

@@ -5,9 +5,10 @@ ghost use Rattle.loan.specs.Loan.{Fair};
 ghost use Rattle.moves.specs.declared.Stop.the-variants.{On, Internal};
 ghost use Rattle.words.specs.Words.{pick};
 ghost use Rattle.touches.specs.Touches.{walk, said};
-ghost use Rattle.control_beats.specs.ControlWords.{acted, pushAct, jumpBeat, popBeat, miscellaneous, controlBeat};
+ghost use Rattle.control_beats.specs.ControlWords.{done, pushAct, jumpBeat, popBeat, miscellaneous, controlBeat};
 use loan::Loan;
 use moves::Lit;
+use moves::Moved;
 use moves::Stop;
 use registers::Base;
 use registers::Motion;
@@ -24,16 +25,15 @@ fn internal_if(on: bool) -> Stop
 }
 
 // A control word that stores nothing.
-fn acted(base: Base, stop: Stop) -> Act
-    ensures { λ r. ⌜ r ≡ acted base stop ⌝ }
+fn done(base: Base, stop: Stop) -> Moved
+    ensures { λ r. ⌜ r ≡ done base stop ⌝ }
 {
     let registers = Registers {
         base,
         motion: Motion::Nothing,
     };
-    Act {
+    Moved {
         registers,
-        stores: Stores::Nowhere,
         lit: Lit::Dark,
         stop,
     }
@@ -73,7 +73,7 @@ fn jump_beat(b: Base, word: u16, l: Loan, memory: &[u16]) -> Turn
             if words::bit(word, 8) {
                 touches::allowed(l, push_act(b, word, second))
             } else {
-                Turn::Does(acted(control::jump(b, word, second), Stop::On))
+                Turn::Moves(done(control::jump(b, word, second), Stop::On))
             }
         }
         Got::Not(why) => Turn::Fails(why),
@@ -89,7 +89,7 @@ fn pop_beat(b: Base, word: u16, l: Loan, memory: &[u16]) -> Turn
     let next = b.pointer.before(1).in_field_zero();
     match touches::fetch(l, memory, at) {
         Got::Word(first) => match touches::fetch(l, memory, next) {
-            Got::Word(second) => Turn::Does(acted(control::pop(b, word, first, second), Stop::On)),
+            Got::Word(second) => Turn::Moves(done(control::pop(b, word, first, second), Stop::On)),
             Got::Not(why) => Turn::Fails(why),
         },
         Got::Not(why) => Turn::Fails(why),
@@ -116,13 +116,13 @@ pub fn control_beat(b: Base, word: u16, l: Loan, memory: &[u16]) -> Turn
 {
     let operation = words::bits(word, 0, 2);
     match operation {
-        0 => Turn::Does(acted(control::parameter(b, word), Stop::On)),
-        1 => Turn::Does(acted(control::mode(b, word), internal_if(words::bit(word, 3)))),
+        0 => Turn::Moves(done(control::parameter(b, word), Stop::On)),
+        1 => Turn::Moves(done(control::mode(b, word), internal_if(words::bit(word, 3)))),
         2 => jump_beat(b, word, l, memory),
         3 => pop_beat(b, word, l, memory),
-        4 => Turn::Does(acted(skips::button_skip(b, word, false), Stop::On)),
-        5 => Turn::Does(acted(skips::button_skip(b, word, true), Stop::On)),
-        6 => Turn::Does(acted(miscellaneous(b, word), Stop::On)),
-        _ => Turn::Does(acted(skips::sync(b, word), Stop::On)),
+        4 => Turn::Moves(done(skips::button_skip(b, word, false), Stop::On)),
+        5 => Turn::Moves(done(skips::button_skip(b, word, true), Stop::On)),
+        6 => Turn::Moves(done(miscellaneous(b, word), Stop::On)),
+        _ => Turn::Moves(done(skips::sync(b, word), Stop::On)),
     }
 }

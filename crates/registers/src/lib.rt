@@ -10,10 +10,10 @@ pub struct LineMotion {
     pub magy: u16,
     pub minusx: bool,
     pub minusy: bool,
-    pub lit: bool,
-    pub escape: bool,
     pub moves: u16,
     pub done: u16,
+    pub lit: bool,
+    pub escape: bool,
 }
 
 // Increment bytes under way: the moves left of the left byte or of the right one. Its fields lie over those of LineMotion, width over width,

@@ -1,5 +1,4 @@
 -- `beats::data_beat` meets its promise: each arm is a case of the definition. Assumes nothing.
-use borrow.Author.Needs.{needs}
 use Prim.Native.Nat.{ℕ}
 use mathlib.Core.Path.{ap}
 use lib.Dec.{eqb}
@@ -7,6 +6,7 @@ use borrow.Author.Tests.{ne-eqb}
 use Rattle.words.specs.Words.{pick}
 use Rattle.touches.specs.Touches.{storing, walk}
 use Rattle.beats.specs.OneTurn.{dataBeat}
+use borrow.Author.Needs.{needs}
 use Rattle.beats.proofs.data_beat.Statement.{statement}
 use Rattle.beats.proofs.data_beat.Tie as tie
 
@@ -19,7 +19,10 @@ data-beat-spec =
     (λ c κs. search needs)
     (λ c κs. search needs)
     (λ c κs. search needs)
-    (λ c. rw (ap (λ (n : ℕ). eqb n 1) (c .before .match .keys1), c .increment .ensures))
-    (λ c. rw (ap (λ (n : ℕ). eqb n 1) (c .before .match .keys2), ap (λ (n : ℕ). eqb n 4) (c .before .match .keys2), c .short-vector .ensures))
-    (λ c. rw (ap (λ (n : ℕ). eqb n 1) (c .before .match .keys3), ap (λ (n : ℕ). eqb n 4) (c .before .match .keys3), ap (λ (n : ℕ). eqb n 6) (c .before .match .keys3), c .graphplot .ensures))
+    (λ c κs. search needs)
+    (λ c κs. search needs)
+    (λ c κs. search needs)
+    (λ c. rw (ap (λ (n : ℕ). eqb n 1) (c .before .before .match .keys1), ← c .before .increment .ensures) (c .roomed .ensures))
+    (λ c. rw (ap (λ (n : ℕ). eqb n 1) (c .before .before .match .keys2), ap (λ (n : ℕ). eqb n 4) (c .before .before .match .keys2), ← c .before .short-vector .ensures) (c .roomed2 .ensures))
+    (λ c. rw (ap (λ (n : ℕ). eqb n 1) (c .before .before .match .keys3), ap (λ (n : ℕ). eqb n 4) (c .before .before .match .keys3), ap (λ (n : ℕ). eqb n 6) (c .before .before .match .keys3), ← c .before .graphplot .ensures) (c .roomed3 .ensures))
     (λ c. let k = c .before .match .rest in rw (ne-eqb _ _ (k .0 .0 .1), ne-eqb _ _ (k .0 .1), ne-eqb _ _ (k .1)) (c .long-beat .ensures)))

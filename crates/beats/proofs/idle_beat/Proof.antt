@@ -1,17 +1,17 @@
 -- `beats::idle_beat` meets its promise: the tests stand in the definition's order. Assumes nothing.
-use borrow.Author.Needs.{needs}
-use mathlib.Core.Path.{refl, sym, _∙_}
+use mathlib.Core.Path.{refl, sym, ap, _∙_}
 use denote.Ref.{now}
 use Rattle.words.specs.Words.{pick}
 use Rattle.touches.specs.Touches.{walk}
 use Rattle.touches.proofs.Walk.{walk-word, walk-not}
-use Rattle.beats.specs.OneTurn.{commandBeat}
+use Rattle.beats.specs.OneTurn.{commandBeat, roomFor}
 use Rattle.beats.proofs.Walk.{walk-idle}
+use borrow.Author.Needs.{needs}
 use Rattle.beats.proofs.idle_beat.Statement.{statement}
 use Rattle.beats.proofs.idle_beat.Tie as tie
 
 pub idle-beat-spec : {M : Type 1} → statement M
-unfolding walk pick
+unfolding walk pick roomFor
 idle-beat-spec =
     tie.close
     (tie.spec
@@ -20,9 +20,9 @@ idle-beat-spec =
     (λ c. search needs)
     (λ c κs. search needs)
     (λ c. search needs)
-    (λ c. let a = c .before .before .args in sym (walk-idle (a .l) (now (a .memory)) (a .b) (c .if1 .taken) refl))
-    (λ c. let a = c .before .before .before .before .args in sym (walk-idle (a .l) (now (a .memory)) (a .b) (c .before .before .if1 .left) (sym (c .before .unusable .ensures) ∙ c .if2 .taken)))
+    (λ c. let a = c .before .before .args in sym (ap (roomFor (a .room)) (walk-idle (a .l) (now (a .memory)) (a .b) (c .if1 .taken) refl)))
+    (λ c. let a = c .before .before .before .before .args in sym (ap (roomFor (a .room)) (walk-idle (a .l) (now (a .memory)) (a .b) (c .before .before .if1 .left) (sym (c .before .unusable .ensures) ∙ c .if2 .taken))))
     (λ c. let a = c .before .before .before .before .before .before .before .before .before .args in
-    c .command-beat .ensures ∙ sym (walk-idle (a .l) (now (a .memory)) (a .b) (c .before .before .before .before .before .before .before .if1 .left) (sym (c .before .before .before .before .before .before .unusable .ensures) ∙ c .before .before .before .before .before .if2 .left) ∙ walk-word (a .l) (now (a .memory)) _ (commandBeat (a .b)) (c .before .before .before .before .fetch .ensures) (c .before .before .word .given .1)))
+    c .command-beat .ensures ∙ sym (ap (roomFor (a .room)) (walk-idle (a .l) (now (a .memory)) (a .b) (c .before .before .before .before .before .before .before .if1 .left) (sym (c .before .before .before .before .before .before .unusable .ensures) ∙ c .before .before .before .before .before .if2 .left) ∙ walk-word (a .l) (now (a .memory)) _ (commandBeat (a .b)) (c .before .before .before .before .fetch .ensures) (c .before .before .word .given .1))))
     (λ c. let a = c .before .before .before .before .before .before .before .before .args in
-    sym (walk-idle (a .l) (now (a .memory)) (a .b) (c .before .before .before .before .before .before .if1 .left) (sym (c .before .before .before .before .before .unusable .ensures) ∙ c .before .before .before .before .if2 .left) ∙ walk-not (a .l) (now (a .memory)) _ (commandBeat (a .b)) (c .before .before .before .fetch .ensures) (c .before .why .given .1))))
+    sym (ap (roomFor (a .room)) (walk-idle (a .l) (now (a .memory)) (a .b) (c .before .before .before .before .before .before .if1 .left) (sym (c .before .before .before .before .before .unusable .ensures) ∙ c .before .before .before .before .if2 .left) ∙ walk-not (a .l) (now (a .memory)) _ (commandBeat (a .b)) (c .before .before .before .fetch .ensures) (c .before .why .given .1)))))

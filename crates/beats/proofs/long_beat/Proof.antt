@@ -1,17 +1,17 @@
 -- `beats::long_beat` meets its promise: the second word is fetched, then the mode picks. Assumes nothing.
-use borrow.Author.Needs.{needs}
-use mathlib.Core.Path.{sym, ap, _∙_}
+use mathlib.Core.Path.{_≡_, sym, ap, _∙_}
 use denote.Ref.{now}
 use borrow.Author.Tests.{eq-eqb, ne-eqb}
 use Rattle.words.specs.Words.{pick}
-use Rattle.touches.specs.Touches.{got, storing, walk}
+use Rattle.touches.specs.Touches.{Does, whole, got, storing, walk}
 use Rattle.touches.proofs.Walk.{walk-word, walk-not}
-use Rattle.beats.specs.OneTurn.{longer, longBeat}
+use Rattle.beats.specs.OneTurn.{longer, longBeat, roomFor}
+use borrow.Author.Needs.{needs}
 use Rattle.beats.proofs.long_beat.Statement.{statement}
 use Rattle.beats.proofs.long_beat.Tie as tie
 
 pub long-beat-spec : {M : Type 1} → statement M
-unfolding longBeat walk storing pick
+unfolding longBeat walk storing pick roomFor
 long-beat-spec =
     tie.close
     (tie.spec
@@ -20,12 +20,16 @@ long-beat-spec =
     (λ c. search needs)
     (λ c κs. search needs)
     (λ c κs. search needs)
+    (λ c κs. search needs)
+    (λ c κs. search needs)
     (λ c. search needs)
-    (λ c. let a = c .before .before .before .before .before .before .before .before .before .args in
-    let e = walk-word (a .l) (now (a .memory)) _ (longer (a .b) (a .word)) (c .before .before .before .before .before .before .fetch .ensures ∙ ap (got (a .l) (now (a .memory))) (c .before .before .before .before .before .before .before .after .ensures)) (c .before .before .before .before .second .given .1) in
-    sym (e ∙ rw (eq-eqb _ _ (c .before .if1 .taken), c .point .ensures)))
-    (λ c. let a = c .before .before .before .before .before .before .before .before .before .args in
-    let e = walk-word (a .l) (now (a .memory)) _ (longer (a .b) (a .word)) (c .before .before .before .before .before .before .fetch .ensures ∙ ap (got (a .l) (now (a .memory))) (c .before .before .before .before .before .before .before .after .ensures)) (c .before .before .before .before .second .given .1) in
-    sym (e ∙ rw (ne-eqb _ _ (c .before .if1 .left), c .vector .ensures)))
+    (λ c. let a = c .before .before .before .before .before .before .before .before .before .before .args in
+    let e = walk-word (a .l) (now (a .memory)) _ (longer (a .b) (a .word)) (c .before .before .before .before .before .before .before .fetch .ensures ∙ ap (got (a .l) (now (a .memory))) (c .before .before .before .before .before .before .before .before .after .ensures)) (c .before .before .before .before .before .second .given .1) in
+    let w : Does (whole (c .before .point .result)) ≡ walk (a .l) (now (a .memory)) (longBeat (a .b) (a .word)) = sym (e ∙ rw (eq-eqb _ _ (c .before .before .if1 .taken), c .before .point .ensures)) in
+    c .roomed .ensures ∙ ap (roomFor (a .room)) w)
+    (λ c. let a = c .before .before .before .before .before .before .before .before .before .before .args in
+    let e = walk-word (a .l) (now (a .memory)) _ (longer (a .b) (a .word)) (c .before .before .before .before .before .before .before .fetch .ensures ∙ ap (got (a .l) (now (a .memory))) (c .before .before .before .before .before .before .before .before .after .ensures)) (c .before .before .before .before .before .second .given .1) in
+    let w : Does (whole (c .before .vector .result)) ≡ walk (a .l) (now (a .memory)) (longBeat (a .b) (a .word)) = sym (e ∙ rw (ne-eqb _ _ (c .before .before .if1 .left), c .before .vector .ensures)) in
+    c .roomed2 .ensures ∙ ap (roomFor (a .room)) w)
     (λ c. let a = c .before .before .before .before .before .before .args in
-    sym (walk-not (a .l) (now (a .memory)) _ (longer (a .b) (a .word)) (c .before .before .before .fetch .ensures ∙ ap (got (a .l) (now (a .memory))) (c .before .before .before .before .after .ensures)) (c .before .why .given .1))))
+    sym (ap (roomFor (a .room)) (walk-not (a .l) (now (a .memory)) _ (longer (a .b) (a .word)) (c .before .before .before .fetch .ensures ∙ ap (got (a .l) (now (a .memory))) (c .before .before .before .before .after .ensures)) (c .before .why .given .1)))))

@@ -1,33 +1,24 @@
--- `beats::one_turn` meets its promise: the beat's outcome, and room for its point. Assumes nothing.
+-- `beats::one_turn` meets its promise: the next move, or none, picks the beat. Assumes nothing.
+use mathlib.Core.Path.{_≡_, sym, ap, _∙_}
+use denote.Ref.{now}
+use Rattle.touches.specs.Touches.{Does, whole, storing, walk}
+use Rattle.beats.specs.OneTurn.{beatBy, beat, roomFor, turn}
 use borrow.Author.Needs.{needs}
-use mathlib.Core.Path.{sym, ap, _∙_}
-use lib.Dec.{leb·zero}
-use borrow.Author.Tests.{le-leb, lt-leb}
-use Rattle.words.specs.Words.{pick}
-use Rattle.touches.specs.Touches.{said}
-use Rattle.beats.specs.OneTurn.{turn, roomFor}
 use Rattle.beats.proofs.one_turn.Statement.{statement}
 use Rattle.beats.proofs.one_turn.Tie as tie
 
 pub one-turn-spec : {M : Type 1} → statement M
-unfolding turn roomFor pick
+unfolding turn walk storing
 one-turn-spec =
     tie.close
     (tie.spec
     (λ c κs. search needs)
     (λ c. search needs)
+    (λ c κs. search needs)
+    (λ c κs. search needs)
     (λ c. search needs)
-    (λ c. search needs)
-    (λ c. search needs)
-    (λ c. search needs)
-    (λ c. search needs)
-    (λ c. search needs)
-    (λ c. search needs)
-    (λ c. rw (sym (c .before .before .before .beat .ensures) ∙ ap said (c .before .why .given .1)))
-    (λ c. rw (sym (c .before .before .before .beat .ensures) ∙ ap said (c .before .resting .given .1)))
-    (λ c. rw (sym (c .before .before .before .before .before .beat .ensures) ∙ ap said (c .before .before .before .c .given .1), c .enum-told .given .1, leb·zero))
-    (λ c. rw (sym (c .before .before .before .before .before .before .beat .ensures) ∙ ap said (c .before .before .before .before .c .given .1), c .before .enum-told2 .given .1, le-leb _ _ (c .if1 .taken)))
-    (λ c. rw (sym (c .before .before .before .before .before .before .beat .ensures) ∙ ap said (c .before .before .before .before .c .given .1), c .before .enum-told2 .given .1, lt-leb _ _ (c .if1 .left)))
-    (λ c. rw (sym (c .before .before .before .before .before .beat .ensures) ∙ ap said (c .before .before .before .c2 .given .1), c .enum-told3 .given .1, leb·zero))
-    (λ c. rw (sym (c .before .before .before .before .before .before .beat .ensures) ∙ ap said (c .before .before .before .before .c2 .given .1), c .before .enum-told4 .given .1, le-leb _ _ (c .if2 .taken)))
-    (λ c. rw (sym (c .before .before .before .before .before .before .beat .ensures) ∙ ap said (c .before .before .before .before .c2 .given .1), c .before .enum-told4 .given .1, lt-leb _ _ (c .if2 .left))))
+    (λ c κs. search needs)
+    (λ c. let a = c .before .before .before .before .before .before .before .before .args in
+    let w : Does (whole (c .before .displaced .result)) ≡ walk (a .l) (now (a .memory)) (beat (a .r)) = rw (c .before .displaced .ensures) (sym (ap (λ z. walk (a .l) (now (a .memory)) (beatBy (a .r .base) z)) (sym (c .before .before .before .before .before .next-move .ensures) ∙ c .before .before .before .v .given .1))) in
+    c .roomed .ensures ∙ ap (roomFor (a .room)) w)
+    (λ c. let a = c .before .before .before .before .before .before .args in c .idle-beat .ensures ∙ sym (ap (λ z. roomFor (a .room) (walk (a .l) (now (a .memory)) (beatBy (a .r .base) z))) (sym (c .before .before .before .next-move .ensures) ∙ c .before .enum-told .given .1))))

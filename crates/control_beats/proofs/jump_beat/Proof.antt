@@ -28,6 +28,6 @@ jump-beat-spec =
     c .allowed .ensures ∙ sym (e ∙ rw (sym (c .before .before .before .bit .ensures) ∙ c .before .before .if1 .taken, c .before .push-act .ensures)))
     (λ c. let a = c .before .before .before .before .before .before .before .before .before .before .args in
     let e = walk-word (a .l) (now (a .memory)) _ (jumped (a .b) (a .word)) (c .before .before .before .before .before .before .before .fetch .ensures ∙ ap (got (a .l) (now (a .memory))) (c .before .before .before .before .before .before .before .before .after .ensures)) (c .before .before .before .before .before .second .given .1) in
-    sym (e ∙ rw (sym (c .before .before .before .bit .ensures) ∙ c .before .before .if1 .left, c .acted .ensures, c .before .jump .ensures)))
+    sym (e ∙ rw (sym (c .before .before .before .bit .ensures) ∙ c .before .before .if1 .left, c .done .ensures, c .before .jump .ensures)))
     (λ c. let a = c .before .before .before .before .before .before .args in
     sym (walk-not (a .l) (now (a .memory)) _ (jumped (a .b) (a .word)) (c .before .before .before .fetch .ensures ∙ ap (got (a .l) (now (a .memory))) (c .before .before .before .before .after .ensures)) (c .before .why .given .1))))

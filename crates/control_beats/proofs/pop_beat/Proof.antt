@@ -31,7 +31,7 @@ pop-beat-spec =
     let next = c .before .before .before .before .before .before .before .before .before .before .in-field-zero2 .ensures ∙ ap fieldZero (c .before .before .before .before .before .before .before .before .before .before .before .before3 .ensures) in
     let got-at = c .before .before .before .before .before .before .before .before .before .fetch .ensures ∙ ap (got (a .l) (now (a .memory))) at in
     let got-next = c .before .before .before .before .before .fetch2 .ensures ∙ ap (got (a .l) (now (a .memory))) next in
-    rw (c .acted .ensures, c .before .pop .ensures) (sym (walk-word (a .l) (now (a .memory)) _ (popped (a .b) (a .word)) got-at (c .before .before .before .before .before .before .before .first .given .1) ∙ walk-word (a .l) (now (a .memory)) _ _ got-next (c .before .before .before .second .given .1) ∙ walk-act _ _ _ refl)))
+    rw (c .done .ensures, c .before .pop .ensures) (sym (walk-word (a .l) (now (a .memory)) _ (popped (a .b) (a .word)) got-at (c .before .before .before .before .before .before .before .first .given .1) ∙ walk-word (a .l) (now (a .memory)) _ _ got-next (c .before .before .before .second .given .1) ∙ walk-act _ _ _ refl)))
     (λ c. let a = c .before .before .before .before .before .before .before .before .before .before .before .before .before .args in
     let at = c .before .before .before .before .before .before .before .before .before .before .in-field-zero .ensures ∙ ap fieldZero (c .before .before .before .before .before .before .before .before .before .before .before .before2 .ensures) in
     let next = c .before .before .before .before .before .before .before .before .in-field-zero2 .ensures ∙ ap fieldZero (c .before .before .before .before .before .before .before .before .before .before3 .ensures) in

@@ -15,6 +15,7 @@ mod words;
 // What stands around the rules.
 pub mod coverage;
 pub mod generate;
+pub mod practice;
 pub mod replay;
 
 pub use host_operations::operate;

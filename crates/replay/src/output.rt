@@ -42,12 +42,16 @@ pub(crate) fn number(value: u64, out: &mut Block, place: usize) -> usize {
     text(&digits[..count], out, at)
 }
 
+fn short(value: u16, out: &mut Block, place: usize) -> usize {
+    number(value as u64, out, place)
+}
+
 // Puts a space and a number for each of `values`.
-pub(crate) fn numbers(values: &[u64], out: &mut Block, place: usize) -> usize {
+pub(crate) fn numbers(values: &[u16], out: &mut Block, place: usize) -> usize {
     let mut at = place;
     let mut i = 0;
     while i < values.len() {
-        at = number(values[i], out, at);
+        at = short(values[i], out, at);
         i += 1;
     }
     at

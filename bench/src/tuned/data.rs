@@ -1,0 +1,174 @@
+//! The data words, each with the moves that it begins.
+
+use second::{Bytes, Ending, Line, Motion, Registers};
+
+use super::beam::{self, Beam, Paper};
+use super::display::*;
+use super::lent::{address_after, Lent};
+
+/// One data word or two, and the moves of a line or of bytes.
+#[inline(always)]
+pub fn beats(
+    now: &mut Display,
+    registers: &mut Registers,
+    lent: &Lent,
+    paper: Paper,
+    points: &mut [u32],
+) -> Result<(), Ending> {
+    let mode = now.mode();
+    if mode == 5 || mode == 7 {
+        registers.running = false;
+        return Err(Ending::UnusableMode);
+    }
+    let word = lent.fetch(now.address)?;
+    match mode {
+        0 => {
+            let second = lent.fetch(address_after(now.address, 1))?;
+            point(now, paper, points, word, second)
+        }
+        1 => {
+            now.go_on(1);
+            increments(now, registers, paper, points, beam::left(word as u16))
+        }
+        6 => graphplot(now, registers, paper, points, word),
+        _ => {
+            // A short vector as the two words of a vector.
+            let (first, second) = if mode == 4 {
+                let y = word & (BIT_0 | BIT_1) | word >> 6 & 0o17;
+                (y, (word & (BIT_6 | BIT_7)) << 6 | word & 0o17)
+            } else {
+                (word, lent.fetch(address_after(now.address, 1))?)
+            };
+            now.go_on(if mode == 4 { 1 } else { 2 });
+            let line = line(first, second);
+            if line.moves == 0 {
+                now.data &= !line.escape;
+                return Ok(());
+            }
+            trace(now, registers, paper, points, line)
+        }
+    }
+}
+
+/// The moves of a line.
+#[inline(always)]
+pub fn trace(
+    now: &mut Display,
+    registers: &mut Registers,
+    paper: Paper,
+    points: &mut [u32],
+    line: Line,
+) -> Result<(), Ending> {
+    let (ink, continues) = (now.ink(paper, points), now.mode() == 3);
+    let (progress, ending) = beam::trace(ink, now.progress, &line, continues, registers);
+    now.progress = progress;
+    // Escape takes effect with the last beat, an edge stop included.
+    if line.escape && registers.motion == Motion::Nothing {
+        now.data = false;
+    }
+    ending.map_or(Ok(()), Err)
+}
+
+/// The moves of increment bytes.
+#[inline(always)]
+pub fn increments(
+    now: &mut Display,
+    registers: &mut Registers,
+    paper: Paper,
+    points: &mut [u32],
+    bytes: Bytes,
+) -> Result<(), Ending> {
+    let ink = now.ink(paper, points);
+    let (progress, ending, escapes) = beam::increments(ink, now.progress, bytes, registers);
+    now.progress = progress;
+    if escapes {
+        now.data = false;
+    }
+    ending.map_or(Ok(()), Err)
+}
+
+/// The line of a vector's two words, y first.
+#[inline(always)]
+fn line(first: u32, second: u32) -> Line {
+    let y_magnitude = (first & 0o1777) as u16;
+    let x_magnitude = (second & 0o1777) as u16;
+    Line {
+        y_minus: first & BIT_1 != 0,
+        x_minus: second & BIT_1 != 0,
+        y_magnitude,
+        x_magnitude,
+        moves: y_magnitude.max(x_magnitude),
+        done: 0,
+        lit: first & BIT_0 != 0,
+        escape: second & BIT_0 != 0,
+    }
+}
+
+/// Lights a point where the beam will be, or ends the run if there is no room.
+#[inline(always)]
+fn light(now: &mut Display, points: &mut [u32], beam: Beam) -> Result<(), Ending> {
+    if beam.in_sector_0() {
+        let place = points
+            .get_mut(now.progress.lit)
+            .ok_or(Ending::PointListFull)?;
+        *place = now.glow() | beam.spot();
+        now.progress.lit += 1;
+    }
+    Ok(())
+}
+
+#[inline(always)]
+fn point(
+    now: &mut Display,
+    paper: Paper,
+    points: &mut [u32],
+    first: u32,
+    second: u32,
+) -> Result<(), Ending> {
+    let mut beam = now.progress.beam;
+    if first & BIT_1 == 0 {
+        beam = beam.with_y(first);
+    }
+    if second & BIT_1 == 0 {
+        beam = beam.with_x(second);
+    }
+    if first & BIT_0 != 0 || paper.all_lit {
+        light(now, points, beam)?;
+    }
+    now.progress.beam = beam;
+    now.data = second & BIT_0 == 0;
+    now.go_on(2);
+    Ok(())
+}
+
+#[inline(always)]
+fn graphplot(
+    now: &mut Display,
+    registers: &mut Registers,
+    paper: Paper,
+    points: &mut [u32],
+    word: u32,
+) -> Result<(), Ending> {
+    let up = word & BIT_1 != 0;
+    let set = |beam: Beam| {
+        if up {
+            beam.with_x(word)
+        } else {
+            beam.with_y(word)
+        }
+    };
+    let edge = match paper.moved(now.progress.beam, beam::forward(up, now.scale())) {
+        Ok(beam) => {
+            light(now, points, set(beam))?;
+            now.progress.beam = set(beam);
+            None
+        }
+        Err(edge) => {
+            now.progress.beam = set(edge.wrapped);
+            Some(edge)
+        }
+    };
+    now.data = word & BIT_0 == 0;
+    now.go_on(1);
+    edge.map_or(Ok(()), |edge| paper.stop(&edge, registers))
+}

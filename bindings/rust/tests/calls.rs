@@ -1,0 +1,209 @@
+//! The calls, done and refused, through the safe interface.
+
+use eveglome::{ending, fresh, operate, place, run, Answer, Loan, Row};
+
+const MEMORY: usize = 32_768;
+
+/// An ending with no word, no beats and no points, as every refusal is.
+fn just(ending: u32) -> Answer {
+    Answer {
+        ending,
+        word: 0,
+        beats: 0,
+        points: 0,
+    }
+}
+
+fn done(word: u32) -> Answer {
+    Answer {
+        ending: ending::DONE,
+        word,
+        beats: 0,
+        points: 0,
+    }
+}
+
+/// Fresh registers with some numbers of the row set.
+fn with_all(numbers: &[(usize, u16)]) -> Row {
+    let mut row = fresh();
+    for &(place, number) in numbers {
+        row.0[place] = number;
+    }
+    row
+}
+
+fn with(place: usize, number: u16) -> Row {
+    with_all(&[(place, number)])
+}
+
+#[test]
+fn fresh_registers_are_all_zero() {
+    assert_eq!(fresh(), Row([0; place::ROW]));
+}
+
+#[test]
+fn start_sets_the_address_and_runs() {
+    let mut row = fresh();
+    assert_eq!(operate(&mut row, 1, 0o200), done(0));
+    assert_eq!(
+        row,
+        with_all(&[(place::ADDRESS, 0o200), (place::RUNNING, 1)])
+    );
+}
+
+#[test]
+fn reading_the_pointer_answers_it() {
+    let mut row = with(place::POINTER, 0o1234);
+    assert_eq!(operate(&mut row, 20, 0), done(0o1234));
+    assert_eq!(row, with(place::POINTER, 0o1234));
+}
+
+/// What the kind of motion does not use is not looked at, and written 0.
+#[test]
+fn an_accepted_call_writes_the_whole_row() {
+    let mut row = with(place::LINE_MOVES, 7);
+    assert_eq!(operate(&mut row, 12, 0), done(0));
+    assert_eq!(row, with(place::IDLE, 1));
+}
+
+#[test]
+fn operations_are_refused_in_the_order_4_5_6() {
+    for (row, operation, operand, number) in [
+        (fresh(), 1, 32_768, ending::OPERAND_OUT_OF_RANGE),
+        (fresh(), 8, 12, ending::OPERAND_OUT_OF_RANGE),
+        (fresh(), 27, 0, ending::UNKNOWN_OPERATION),
+        (fresh(), 0, u32::MAX, ending::UNKNOWN_OPERATION),
+        (with(place::X, 8_192), 27, 9, ending::REGISTERS_OUT_OF_RANGE),
+    ] {
+        let mut left = row;
+        assert_eq!(operate(&mut left, operation, operand), just(number));
+        assert_eq!(left, row);
+    }
+}
+
+/// A flag of 2, a mode of 256, a third kind of motion: no register can hold them.
+#[test]
+fn a_row_that_does_not_fit_is_refused_as_4() {
+    use place::*;
+    let line = with_all(&[
+        (STATE, 1),
+        (MODE, 2),
+        (MOTION, 1),
+        (LINE_MAGNITUDE_X, 3),
+        (LINE_MOVES, 3),
+    ]);
+    let bytes = with_all(&[
+        (STATE, 1),
+        (MODE, 1),
+        (MOTION, 2),
+        (BYTES_WORD, 0o1010),
+        (BYTES_MOVES_LEFT, 1),
+    ]);
+    let flags = [
+        STATE,
+        PEN_ENABLE,
+        PEN_HOLD,
+        PEN_SENSE,
+        BLINK,
+        IDLE,
+        HIT_1,
+        HIT_2,
+        INTERNAL_STOP_FLAG,
+        EXTERNAL_STOP_FLAG,
+        VERTICAL_EDGE_FLAG,
+        HORIZONTAL_EDGE_FLAG,
+        PEN_FLAG,
+        MANUAL_INTERRUPT_FLAG,
+        RUNNING,
+        STOP_REQUEST,
+    ];
+    let line_flags = [LINE_MINUS_Y, LINE_MINUS_X, LINE_LIT, LINE_ESCAPE];
+    for (row, places, number) in [
+        (fresh(), &flags[..], 2),
+        (fresh(), &[MODE, SCALE, INTENSITY], 256),
+        (fresh(), &[MOTION], 3),
+        (line, &line_flags, 2),
+        (bytes, &[BYTES_SIDE], 2),
+    ] {
+        assert_eq!(operate(&mut row.clone(), 20, 0), done(0));
+        for &place in places {
+            let mut given = row;
+            given.0[place] = number;
+            let mut left = given;
+            let answer = operate(&mut left, 20, 0);
+            assert_eq!(answer, just(ending::REGISTERS_OUT_OF_RANGE));
+            assert_eq!(left, given);
+        }
+    }
+}
+
+/// The example of document 01's practice program.
+#[test]
+fn a_run_draws_a_point() {
+    let mut memory = vec![0; MEMORY];
+    memory[0o200..0o204].copy_from_slice(&[0o1101, 0o4144, 0o4310, 0o1400]);
+    let before = memory.clone();
+    let mut points = [u32::MAX; 4];
+    let mut row = fresh();
+    operate(&mut row, 1, 0o200);
+    let answer = run(&mut row, Loan::ALL, &mut memory, &mut points, 65_535);
+    let ended = Answer {
+        ending: ending::INTERNAL_STOP,
+        word: 0,
+        beats: 3,
+        points: 1,
+    };
+    assert_eq!(answer, ended);
+    assert_eq!(points, [200 + 1_024 * 100, u32::MAX, u32::MAX, u32::MAX]);
+    assert_eq!(memory, before);
+    assert_eq!((row.0[place::X], row.0[place::Y]), (200, 100));
+    assert_eq!(row.0[place::INTERNAL_STOP_FLAG], 1);
+    assert_eq!(row.0[place::RUNNING], 0);
+}
+
+#[test]
+fn a_run_on_no_points_and_no_running_display_ends_10() {
+    let mut row = fresh();
+    let answer = run(&mut row, Loan::ALL, &mut vec![0; MEMORY], &mut [], 0);
+    assert_eq!(answer, just(ending::NOT_RUNNING));
+    assert_eq!(row, fresh());
+}
+
+/// Each call has every fault from its own number on, so that the order is seen too.
+#[test]
+fn runs_are_refused_in_the_order_1_2_3_4() {
+    let crossed = Loan {
+        file_low: 1,
+        file_high: 0,
+        ..Loan::ALL
+    };
+    let above = Loan {
+        list_high: 32_769,
+        ..Loan::ALL
+    };
+    let bad = with(place::PEN_ENABLE, 2);
+    for (row, loan, length, budget, number) in [
+        (bad, crossed, MEMORY - 1, 65_536, ending::MEMORY_LENGTH),
+        (bad, crossed, 0, 65_536, ending::MEMORY_LENGTH),
+        (bad, crossed, MEMORY, u32::MAX, ending::BUDGET_TOO_LARGE),
+        (bad, crossed, MEMORY, 65_535, ending::BAD_LOAN),
+        (bad, above, MEMORY, 0, ending::BAD_LOAN),
+        (bad, Loan::ALL, MEMORY, 0, ending::REGISTERS_OUT_OF_RANGE),
+        (
+            with(place::MODE, 8),
+            Loan::ALL,
+            MEMORY,
+            0,
+            ending::REGISTERS_OUT_OF_RANGE,
+        ),
+    ] {
+        let mut left = row;
+        let mut memory = vec![0o2010; length];
+        let mut points = [7; 3];
+        let answer = run(&mut left, loan, &mut memory, &mut points, budget);
+        assert_eq!(answer, just(number));
+        assert_eq!(left, row);
+        assert_eq!(memory, vec![0o2010; length]);
+        assert_eq!(points, [7; 3]);
+    }
+}

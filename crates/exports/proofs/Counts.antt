@@ -1,0 +1,61 @@
+-- The points of an answer fit 32 bits: an operation lights none, and a run's beat at most one, of at most 65,535 beats. Assumes nothing.
+use Prim.Native.Nat.{ℕ, zero, suc, _≤_, _<_}
+use mathlib.Core.List.{List}
+use lib.Dec.{eqb, leb}
+use lib.ListN.{length, length-append}
+use native.Mathlib.Omega.{arith}
+use borrow.Author.Tests.{leb-true}
+use Rattle.words.proofs.Laws.{pick-case}
+use Rattle.registers.specs.declared.Registers.{Registers}
+use Rattle.registers.specs.Registers.{inRange}
+use Rattle.host.specs.declared.Reply.{Reply}
+use Rattle.host.specs.declared.Reply.the-variants.{Refused, Done}
+use Rattle.host.specs.HostOperations.{numbered as replyNumbered}
+use Rattle.moves.specs.declared.Lit.{Lit}
+use Rattle.moves.specs.declared.Lit.the-variants.{Dark, Point}
+use Rattle.loan.specs.declared.Loan.{Loan}
+use Rattle.loan.specs.Loan.{fairLoan}
+use Rattle.touches.specs.Touches.{Turn, Fails, Rests, Does}
+use Rattle.beats.specs.OneTurn.{points, turn}
+use Rattle.machine.specs.declared.Halt.{Halt}
+use Rattle.machine.specs.declared.Halt.the-variants.{Goes, Ends}
+use Rattle.machine.specs.Runs.{halted, Run, Go, follow, onward, run, entered, Left, call, numbered as answerNumbered}
+
+pub reply-points : (q : Reply) → replyNumbered q .points < 4294967296
+reply-points (Refused number) = omega arith
+reply-points (Done word) = omega arith
+
+one : (lit : Lit) → length (points lit) ≤ 1
+one Dark = omega arith
+one (Point p) = omega arith
+
+onward-few : (k : ℕ) (go : Go) → ((room : ℕ) (r : Registers) (m : List ℕ) → length (go room r m .lit) ≤ k) →
+    (room : ℕ) (r : Registers) (m : List ℕ) (t : Turn) → length (onward go room r m t .lit) ≤ suc k
+onward-few k go ih room r m (Fails why) = omega arith
+onward-few k go ih room r m (Rests resting) = omega arith
+onward-few k go ih room r m (Does c) = rw length-append (omega (arith, one (c .lit), by (halted (c .stop))))
+  where
+    by : (s : Halt) → length (follow go room m c s .lit) ≤ k
+    by Goes = ih _ _ _
+    by (Ends ending) = omega arith
+
+run-few : (k : ℕ) (l : Loan) (room : ℕ) (r : Registers) (m : List ℕ) → length (run k l room r m .lit) ≤ k
+unfolding run
+run-few zero l room r m = omega arith
+run-few (suc k) l room r m = onward-few k (run k l) (run-few k l) room r m (turn l room r m)
+
+entered-few : (k : ℕ) (l : Loan) (room : ℕ) (r : Registers) (m : List ℕ) → length (entered k l room r m .lit) ≤ k
+unfolding entered
+entered-few k l room r m = pick-case (λ (f : Run). length (f .lit) ≤ k) (r .base .running) (λ _. run-few k l room r m) (λ _. omega arith)
+
+abbrev pub Few : Left → Type 0
+Few t = answerNumbered (t .ran .answer) .points < 4294967296
+
+pub answer-points : (budget : ℕ) (l : Loan) (r : Registers) (m ps : List ℕ) → Few (call budget l r m ps)
+unfolding call
+answer-points k l r m ps =
+    pick-case Few (eqb (length m) 32768)
+    (λ _. pick-case Few (leb k 65535)
+    (λ h. pick-case Few (fairLoan l)
+    (λ _. pick-case Few (inRange r) (λ _. omega (arith, leb-true k 65535 h, entered-few k l (length ps) r m)) (λ _. omega arith)) (λ _. omega arith)) (λ _. omega arith))
+    (λ _. omega arith)

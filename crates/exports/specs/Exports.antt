@@ -1,0 +1,69 @@
+-- What each export leaves of the lists that it is lent. The calls themselves are host's `operated` and machine's `call`, with their refusals. Assumes nothing.
+use Prim.Native.Nat.{ℕ}
+use mathlib.Core.List.{List, [], _∷_}
+use lib.ListN.{getD}
+use Rattle.registers.specs.declared.Registers.{Registers}
+use Rattle.host.specs.declared.Operated.{Operated}
+use Rattle.host.specs.declared.Reply.{Reply}
+use Rattle.host.specs.declared.Reply.the-variants.{Refused, Done}
+use Rattle.host.specs.HostOperations.{operated, numbered as replyNumbered}
+use Rattle.loan.specs.declared.Loan.{Loan}
+use Rattle.machine.specs.declared.Answer.{Answer}
+use Rattle.machine.specs.declared.Answer.the-variants.{Refused as RefusedRun, Ended}
+use Rattle.machine.specs.Runs.{Left, call, numbered as answerNumbered}
+use Rattle.numbers.specs.Numbers.{registersOf, rowOf}
+
+-- the loan of its four numbers: file low, file high, list low, list high
+abbrev pub loanOf : List ℕ → Loan
+loanOf loan = record { filelow = getD loan 0 0; filehigh = getD loan 1 0; listlow = getD loan 2 0; listhigh = getD loan 3 0 }
+
+-- the row after a call: a refusal leaves it as it was
+abbrev pub rowAfterOperation : Reply → Registers → List ℕ → List ℕ
+rowAfterOperation (Refused number) r row = row
+rowAfterOperation (Done word) r row = rowOf r
+
+abbrev pub rowAfterRun : Answer → Registers → List ℕ → List ℕ
+rowAfterRun (RefusedRun number) r row = row
+rowAfterRun (Ended ending beats points) r row = rowOf r
+
+-- an answer's four numbers: ending or refusal, word, beats, points
+abbrev pub told : ℕ → ℕ → ℕ → ℕ → List ℕ
+told ending word beats points = ending ∷ word ∷ beats ∷ points ∷ []
+
+-- what an operation leaves
+pub record OperationLeft : Type 0 where
+  pub row : List ℕ
+  pub answer : List ℕ
+
+abbrev pub operationLeaves : List ℕ → List ℕ → OperationLeft
+operationLeaves row answer = record { row = row; answer = answer }
+
+-- an operation's outcome on a row, as numbers
+abbrev pub operatedAs : List ℕ → Operated → OperationLeft
+operatedAs row q =
+    let n = replyNumbered (q .reply) in
+    operationLeaves (rowAfterOperation (q .reply) (q .registers) row) (told (n .ending) (n .word) (n .beats) (n .points))
+
+-- the export of an operation: host's call on the registers of the row
+unfoldable pub operates : List ℕ → ℕ → ℕ → OperationLeft
+operates row operation operand = operatedAs row (operated (registersOf row) operation operand)
+
+-- what a run leaves
+pub record RunLeft : Type 0 where
+  pub row : List ℕ
+  pub memory : List ℕ
+  pub points : List ℕ
+  pub answer : List ℕ
+
+abbrev pub runLeaves : List ℕ → List ℕ → List ℕ → List ℕ → RunLeft
+runLeaves row m ps answer = record { row = row; memory = m; points = ps; answer = answer }
+
+-- a run's outcome on a row, as numbers
+abbrev pub ranAs : List ℕ → Left → RunLeft
+ranAs row c =
+    let n = answerNumbered (c .ran .answer) in
+    runLeaves (rowAfterRun (c .ran .answer) (c .ran .registers) row) (c .memory) (c .points) (told (n .ending) (n .word) (n .beats) (n .points))
+
+-- the export of a run: the machine's call on the registers of the row
+unfoldable pub runs : ℕ → List ℕ → List ℕ → List ℕ → List ℕ → RunLeft
+runs budget loan row m ps = ranAs row (call budget (loanOf loan) (registersOf row) m ps)

@@ -1,0 +1,108 @@
+// The library for other languages: three calls on numbers and lists of numbers. Registers are a row of 34 numbers (crate `numbers`), an answer the four numbers
+// of document 01. Whatever arrives is refused or done: no caller has to check first.
+ghost use mathlib.Core.Path.{_≡_};
+ghost use Prim.Native.Nat.{_<_};
+ghost use Rattle.registers.specs.Registers.{fresh};
+ghost use Rattle.numbers.specs.Numbers.{rowOf};
+ghost use Rattle.exports.specs.Exports.{loanOf, rowAfterOperation, rowAfterRun, told, operationLeaves, operates, runLeaves, runs};
+use host::Reply;
+use loan::Loan;
+use machine::Answer;
+use registers::Registers;
+
+// The loan of its four numbers: file low, file high, list low, list high.
+fn loan_of(loan: [u16; 4]) -> Loan
+    ensures { λ r. ⌜ r ≡ loanOf loan ⌝ }
+{
+    Loan {
+        filelow: loan[0],
+        filehigh: loan[1],
+        listlow: loan[2],
+        listhigh: loan[3],
+    }
+}
+
+// Leaves the row of an operation's registers; a refusal leaves the row as it was.
+fn leave_operation(reply: Reply, r: Registers, row: &mut [u16; 34])
+    ensures { λ _. ⌜ now (row .exit) ≡ rowAfterOperation reply r (now (row .entry)) ⌝ }
+{
+    match reply {
+        Reply::Refused(_) => {}
+        Reply::Done(_) => {
+            *row = numbers::row_of(r);
+        }
+    }
+}
+
+// The same of a run. What is written depends on the answer's case alone: a test of its number here would slow the whole run down, because the compiler
+// carries it into the loop.
+fn leave_run(answer: Answer, r: Registers, row: &mut [u16; 34])
+    ensures { λ _. ⌜ now (row .exit) ≡ rowAfterRun answer r (now (row .entry)) ⌝ }
+{
+    match answer {
+        Answer::Refused(_) => {}
+        Answer::Ended(_, _, _) => {
+            *row = numbers::row_of(r);
+        }
+    }
+}
+
+// An answer's four numbers: ending or refusal, word, beats, points.
+fn told(ending: u8, word: u16, beats: u32, points: usize) -> [u32; 4]
+    requires { ⌜ points < 4294967296 ⌝ }
+    ensures { λ r. ⌜ r ≡ told ending word beats points ⌝ }
+{
+    [ending as u32, word as u32, beats, points as u32]
+}
+
+// Writes the row of fresh registers.
+#[no_mangle]
+pub extern "C" fn eveglome_fresh(registers: &mut [u16; 34])
+    ensures { λ _. ⌜ now (registers .exit) ≡ rowOf fresh ⌝ }
+{
+    *registers = numbers::row_of(registers::fresh());
+}
+
+// Makes a host operation on the registers. A refused one leaves them as they were.
+#[no_mangle]
+pub extern "C" fn eveglome_operate(
+    registers: &mut [u16; 34],
+    operation: u32,
+    operand: u32,
+    answer: &mut [u32; 4],
+)
+    ensures { λ _. ⌜ operationLeaves (now (registers .exit)) (now (answer .exit)) ≡ operates (now (registers .entry)) operation operand ⌝ }
+{
+    let operated = host::operate(numbers::registers_of(*registers), operation, operand);
+    let reply = operated.reply;
+    let after = operated.registers;
+    let numbers = host::numbered(reply);
+    leave_operation(reply, after, registers);
+    *answer = told(numbers.ending, numbers.word, numbers.beats, numbers.points);
+}
+
+// Runs the display. A refused run leaves registers, memory and points as they were.
+#[no_mangle]
+pub extern "C" fn eveglome_run(
+    registers: &mut [u16; 34],
+    loan: &[u16; 4],
+    memory: &mut [u16],
+    points: &mut [u32],
+    budget: u32,
+    answer: &mut [u32; 4],
+)
+    ensures { λ _. ⌜ runLeaves (now (registers .exit)) (now (memory .exit)) (now (points .exit)) (now (answer .exit)) ≡ runs budget (now (loan .entry)) (now (registers .entry)) (now (memory .entry)) (now (points .entry)) ⌝ }
+{
+    let ran = machine::run(
+        numbers::registers_of(*registers),
+        loan_of(*loan),
+        memory,
+        points,
+        budget,
+    );
+    let ended = ran.answer;
+    let after = ran.registers;
+    let numbers = machine::numbered(ended);
+    leave_run(ended, after, registers);
+    *answer = told(numbers.ending, numbers.word, numbers.beats, numbers.points);
+}

@@ -1,0 +1,3 @@
+pub mod Writing
+pub mod Answer
+pub mod LongInput

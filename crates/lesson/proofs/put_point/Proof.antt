@@ -1,0 +1,33 @@
+-- `lesson::put_point` meets its promise: its numbers are put one behind the other. Assumes nothing.
+use Prim.Native.Nat.{ℕ}
+use mathlib.Core.Path.{_≡_}
+use Rattle.text.specs.Text.{Filled, puts, number}
+use Rattle.text.proofs.Puts.{behind}
+use Rattle.points.specs.Points.{pointX, pointY, pointIntensity, pointBlink}
+use Rattle.lesson.specs.Lesson.{pointLine}
+use borrow.Author.Needs.{needs}
+use Rattle.lesson.proofs.put_point.Statement.{statement}
+use Rattle.lesson.proofs.put_point.Tie as tie
+
+-- number behind number
+by : (p : ℕ) (f : Filled) {x y intensity blink : ℕ} {g₁ g₂ g₃ g₄ : Filled} → g₁ ≡ puts (number x 32) f → x ≡ pointX p → g₂ ≡ puts (number y 32) g₁ →
+    y ≡ pointY p → g₃ ≡ puts (number intensity 32) g₂ → intensity ≡ pointIntensity p → g₄ ≡ puts (number blink 10) g₃ → blink ≡ pointBlink p →
+    g₄ ≡ puts (pointLine p) f
+unfolding pointLine
+by p f p₁ ex p₂ ey p₃ ei p₄ eb =
+    rw (← ex, ← ey, ← ei, ← eb) (behind _ _ _ (behind _ _ _ (behind _ _ _ p₁ p₂) p₃) p₄)
+
+pub put-point-spec : {M : Type 1} → statement M
+put-point-spec =
+    tie.close
+    (tie.spec
+    (λ c κs. search needs)
+    (λ c κs. search needs)
+    (λ c κs. search needs)
+    (λ c κs. search needs)
+    (λ c κs. search needs)
+    (λ c κs. search needs)
+    (λ c κs. search needs)
+    (λ c κs. search needs)
+    (λ c. search needs)
+    (λ c. by (c .before .before .before .before .before .before .before .before .before .before .before .before .before .before .before .before .before .before .before .before .before .args .point) _ (c .before .before .before .before .before .before .before .before .before .before .before .before .before .before .before .before .before .put-number .ensures) (c .before .before .before .before .before .before .before .before .before .before .before .before .before .before .before .before .before .before .before .point-x .ensures) (c .before .before .before .before .before .before .before .before .before .before .before .before .put-number2 .ensures) (c .before .before .before .before .before .before .before .before .before .before .before .before .before .before .point-y .ensures) (c .before .before .before .before .before .before .before .put-number3 .ensures) (c .before .before .before .before .before .before .before .before .before .point-intensity .ensures) (c .before .before .put-number4 .ensures) (c .before .before .before .before .point-blink .ensures)))

@@ -1,0 +1,77 @@
+-- Section 'A practice program' of 01: the bytes that it writes for the bytes that it reads. Assumes nothing.
+use Prim.Native.Nat.{ℕ, zero, suc, _+_, _*_}
+use mathlib.Core.Path.{_≡_}
+use mathlib.Core.Bool.{_&&_}
+use mathlib.Core.List.{List, [], _∷_, _++_}
+use lib.Dec.{leb, eqb}
+use lib.ListN.{length, take, replicate}
+use Rattle.words.specs.Words.{pick}
+use Rattle.registers.specs.declared.Registers.{Registers}
+use Rattle.registers.specs.Registers.{fresh}
+use Rattle.host.specs.HostOperations.{operated}
+use Rattle.loan.specs.Loan.{all}
+use Rattle.machine.specs.Runs.{Left, call, numbered}
+use Rattle.lines.specs.Lines.{Read, read, start}
+use Rattle.text.specs.Text.{decimal, number}
+use Rattle.points.specs.Points.{pointX, pointY, pointIntensity, pointBlink}
+
+-- THE RUN
+
+-- a memory with 0 everywhere
+unfoldable pub blank : List ℕ
+blank = replicate 32768 0
+
+-- room for 1,024 points
+unfoldable pub room : List ℕ
+room = replicate 1024 0
+
+-- a fresh display, started at an address
+unfoldable pub begun : ℕ → Registers
+begun a = operated fresh 1 a .registers
+
+-- all lent, budget 65,535
+unfoldable pub played : ℕ → List ℕ → Left
+played a m = call 65535 all (begun a) m room
+
+-- WHAT IS WRITTEN
+
+-- x, y, intensity, blink
+unfoldable pub pointLine : ℕ → List ℕ
+pointLine p =
+    number (pointX p) 32 ++ number (pointY p) 32 ++ number (pointIntensity p) 32 ++ number (pointBlink p) 10
+
+-- a line for each of the first n points
+unfoldable pub pointLines : ℕ → List ℕ → List ℕ
+pointLines zero ps = []
+pointLines (suc n) [] = []
+pointLines (suc n) (p ∷ ps) = pointLine p ++ pointLines n ps
+
+-- "ending E beats B"
+unfoldable pub endingLine : ℕ → ℕ → List ℕ
+endingLine ending beats =
+    (101 ∷ 110 ∷ 100 ∷ 105 ∷ 110 ∷ 103 ∷ 32 ∷ []) ++ decimal ending ++ (32 ∷ 98 ∷ 101 ∷ 97 ∷ 116 ∷ 115 ∷ 32 ∷ []) ++ number beats 10
+
+unfoldable pub told : Left → List ℕ
+told t =
+    let numbers = numbered (t .ran .answer) in
+    pointLines (numbers .points) (t .points) ++ endingLine (numbers .ending) (numbers .beats)
+
+-- "bad line N"
+unfoldable pub badLine : ℕ → List ℕ
+badLine n = (98 ∷ 97 ∷ 100 ∷ 32 ∷ 108 ∷ 105 ∷ 110 ∷ 101 ∷ 32 ∷ []) ++ number n 10
+
+-- good input is lines and nothing else, 1 to 4,096 of them; the display starts at the first line's address. Else the first line that is none, or too many,
+-- is the one behind the lines read
+abbrev pub answered : List ℕ → Read → List ℕ
+answered s r =
+    pick (leb 1 (r .count) && eqb (11 * r .count) (length s)) (told (played (start s) (r .memory))) (badLine (r .count + 1))
+
+unfoldable pub practice : List ℕ → List ℕ
+practice s = answered s (read 4096 s 0 blank)
+
+-- how many bytes decide what is written: one more than 4,096 lines have
+abbrev pub decisive : ℕ
+decisive = 45057
+
+abbrev pub Enough : Type 0
+Enough = (s : List ℕ) → practice (take decisive s) ≡ practice s

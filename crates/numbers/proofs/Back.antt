@@ -1,0 +1,81 @@
+-- The row is a faithful form of the registers: each flag reads back from its 0 or 1, what has 8 bits loses none, and the registers of a row that does not fit
+-- have a mode out of range. Assumes nothing.
+use Prim.Native.Nat.{ℕ, _%_, _<_}
+use mathlib.Core.Path.{_≡_, refl, _∙_}
+use mathlib.Core.Bool.{Bool, true, false}
+use mathlib.Core.List.{List}
+use native.Mathlib.Nat.{mod-eq-of-lt}
+use native.Mathlib.Omega.{arith}
+use lib.Dec.{leb, eqb}
+use borrow.Author.Tests.{le-leb}
+use mir.Val.{boolByte}
+use Rattle.words.specs.Words.{pick, _and_}
+use Rattle.registers.specs.declared.Base.{Base}
+use Rattle.registers.specs.declared.Motion.{Motion}
+use Rattle.registers.specs.declared.Motion.the-variants.{Nothing, Line, Bytes}
+use Rattle.registers.specs.declared.Registers.{Registers}
+use Rattle.registers.specs.Registers.{inRange, numbersInRange, motionInRange, GoodBase, Good}
+use Rattle.registers.proofs.InRange.{good}
+use Rattle.numbers.specs.Numbers.{fits, narrowFit, flagsFit, motionFits, baseOf, motionOf, fitted, registersOf, motionRow, joined, rowOf, Faithful}
+
+flag-back : (b : Bool) → eqb (boolByte b) 1 ≡ b
+flag-back true = refl
+flag-back false = refl
+
+flag-small : (b : Bool) → leb (boolByte b) 1 ≡ true
+flag-small true = refl
+flag-small false = refl
+
+-- what has 8 bits loses none
+module _ (n : ℕ) (h : n < 256) where
+  narrow-back : n % 256 ≡ n
+  narrow-back = mod-eq-of-lt h
+
+  narrow-small : leb n 255 ≡ true
+  narrow-small = le-leb n 255 (omega arith)
+
+flags-fit : (b : Base) (m : List ℕ) → flagsFit (joined b m) ≡ true
+flags-fit b m = simp flag-small
+
+motion-fits : (b : Base) (m : Motion) → motionFits (joined b (motionRow m)) ≡ true
+unfolding motionFits motionRow pick
+motion-fits b Nothing = refl
+motion-fits b (Line l) = simp flag-small
+motion-fits b (Bytes t) = flag-small (t .right)
+
+motion-back : (b : Base) (m : Motion) → motionOf (joined b (motionRow m)) ≡ m
+unfolding motionOf motionRow pick
+motion-back b Nothing = refl
+motion-back b (Line l) = simp flag-back
+motion-back b (Bytes t) = simp flag-back
+
+module _ (b : Base) (m : List ℕ) (g : GoodBase b) where
+  narrow-fit : narrowFit (joined b m) ≡ true
+  narrow-fit = simp (narrow-small (b .mode) (omega (arith, g .mode)), narrow-small (b .scale) (omega (arith, g .scale)), narrow-small (b .intensity) (omega (arith, g .intensity)))
+
+  base-back : baseOf (joined b m) ≡ b
+  base-back = simp (flag-back, narrow-back (b .mode) (omega (arith, g .mode)), narrow-back (b .scale) (omega (arith, g .scale)), narrow-back (b .intensity) (omega (arith, g .intensity)))
+
+row-fits : (r : Registers) → Good r → fits (rowOf r) ≡ true
+unfolding fits rowOf
+row-fits r g = rw (flags-fit (r .base) (motionRow (r .motion)), narrow-fit (r .base) (motionRow (r .motion)) (g .base), motion-fits (r .base) (r .motion))
+
+fitting : (row : List ℕ) → fits row ≡ true → registersOf row ≡ fitted row
+unfolding registersOf pick
+fitting row e = rw e
+
+same : {b d : Base} {m n : Motion} → b ≡ d → m ≡ n → _≡_ {A = Registers} (record { base = b; motion = m }) (record { base = d; motion = n })
+same p q = cc
+
+back : (r : Registers) → inRange r ≡ true → registersOf (rowOf r) ≡ r
+unfolding rowOf
+back r h =
+    let g = good r h in
+    fitting (rowOf r) (row-fits r g) ∙ same (base-back (r .base) (motionRow (r .motion)) (g .base)) (motion-back (r .base) (r .motion))
+
+refused : (row : List ℕ) → fits row ≡ false → inRange (registersOf row) ≡ false
+unfolding registersOf pick inRange numbersInRange motionInRange _and_
+refused row e = rw e
+
+pub faithful : Faithful
+faithful = record { back = back; refused = refused }

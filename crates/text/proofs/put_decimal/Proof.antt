@@ -1,0 +1,29 @@
+-- `text::put_decimal` meets its promise: its five figures are put one behind the other. Assumes nothing.
+use Prim.Native.Nat.{ℕ}
+use mathlib.Core.Path.{_≡_}
+use mathlib.Core.List.{[], _∷_}
+use borrow.Author.Needs.{needs}
+use Rattle.text.specs.Text.{Filled, puts, digit, figure, decimal}
+use Rattle.text.proofs.Puts.{behind}
+use Rattle.text.proofs.put_decimal.Statement.{statement}
+use Rattle.text.proofs.put_decimal.Tie as tie
+
+-- figure behind figure
+by : (n : ℕ) (f : Filled) {g₁ g₂ g₃ g₄ g₅ : Filled} → g₁ ≡ puts (figure n 10000) f → g₂ ≡ puts (figure n 1000) g₁ → g₃ ≡ puts (figure n 100) g₂ →
+    g₄ ≡ puts (figure n 10) g₃ → g₅ ≡ puts (digit n ∷ []) g₄ → g₅ ≡ puts (decimal n) f
+unfolding decimal
+by n f p₁ p₂ p₃ p₄ p₅ = behind _ _ _ (behind _ _ _ (behind _ _ _ (behind _ _ _ p₁ p₂) p₃) p₄) p₅
+
+pub put-decimal-spec : {M : Type 1} → statement M
+put-decimal-spec =
+    tie.close
+    (tie.spec
+    (λ c κs. search needs)
+    (λ c κs. search needs)
+    (λ c κs. search needs)
+    (λ c κs. search needs)
+    (λ c. search needs)
+    (λ c. search needs)
+    (λ c κs. search needs)
+    (λ c. search needs)
+    (λ c. by (c .before .before .before .before .before .before .before .before .before .before .before .before .before .before .before .before .before .before .before .before .before .args .value) _ (c .before .before .before .before .before .before .before .before .before .before .before .before .before .before .before .before .before .before .put-figure .ensures) (c .before .before .before .before .before .before .before .before .before .before .before .before .before .before .put-figure2 .ensures) (c .before .before .before .before .before .before .before .before .before .before .put-figure3 .ensures) (c .before .before .before .before .before .before .put-figure4 .ensures) (c .before .before .put .ensures)))

@@ -1,0 +1,43 @@
+-- Text as a list of bytes, what it is to put it into a lent list, and a number in decimal. Assumes nothing.
+use Prim.Native.Nat.{ℕ, _+_, _/_, _%_}
+use mathlib.Core.List.{List, [], _∷_, _++_}
+use lib.Dec.{leb, ltb}
+use lib.ListN.{length, set, drop}
+use Rattle.words.specs.Words.{pick}
+
+-- a lent list, and how far it is filled
+pub record Filled : Type 0 where
+  pub place : ℕ
+  pub bytes : List ℕ
+
+abbrev pub filled : ℕ → List ℕ → Filled
+filled place bytes = record { place = place; bytes = bytes }
+
+-- a byte at the place, and the place behind it; nothing where the list is full
+unfoldable pub put : ℕ → Filled → Filled
+put byte f = pick (ltb (f .place) (length (f .bytes))) (filled (f .place + 1) (set (f .bytes) (f .place) byte)) f
+
+-- bytes one behind the other
+unfoldable pub puts : List ℕ → Filled → Filled
+puts [] f = f
+puts (byte ∷ bytes) f = puts bytes (put byte f)
+
+-- the list begins with the text and goes on as it was
+unfoldable pub whole : List ℕ → List ℕ → Filled
+whole bytes text = filled (length bytes) (bytes ++ drop (length bytes) text)
+
+-- one decimal figure as a byte: 0 is 48
+abbrev pub digit : ℕ → ℕ
+digit n = 48 + n % 10
+
+-- the figure of this weight; none in the place of a leading zero
+unfoldable pub figure : ℕ → ℕ → List ℕ
+figure n weight = pick (leb weight n) (digit (n / weight) ∷ []) []
+
+-- a number below 100,000 in decimal, without leading zeros
+unfoldable pub decimal : ℕ → List ℕ
+decimal n = figure n 10000 ++ figure n 1000 ++ figure n 100 ++ figure n 10 ++ digit n ∷ []
+
+-- a number and the byte that ends it
+unfoldable pub number : ℕ → ℕ → List ℕ
+number n end = decimal n ++ end ∷ []

@@ -1,0 +1,59 @@
+// Text as bytes, put one behind the other into a lent list. A place says how far the list is filled; what finds no room is dropped.
+ghost use mathlib.Core.Path.{_≡_};
+ghost use mathlib.Core.List.{[], _∷_};
+ghost use Prim.Native.Nat.{_≤_};
+ghost use Rattle.text.specs.Text.{filled, puts, figure, decimal, number};
+
+pub fn put(byte: u8, text: &mut [u8], place: usize) -> usize
+    ensures { λ r. ⌜ filled r (now (text .exit)) ≡ puts (byte ∷ []) (filled place (now (text .entry))) ⌝ }
+{
+    if place < text.len() {
+        text[place] = byte;
+        place + 1
+    } else {
+        place
+    }
+}
+
+pub fn put_all(bytes: &[u8], text: &mut [u8], place: usize) -> usize
+    ensures { λ r. ⌜ filled r (now (text .exit)) ≡ puts (now (bytes .entry)) (filled place (now (text .entry))) ⌝ }
+{
+    let mut at = place;
+    let mut i = 0;
+    while i < bytes.len() {
+        at = put(bytes[i], text, at);
+        i += 1;
+    }
+    at
+}
+
+// One figure of a number, by its weight: none where the number is smaller.
+fn put_figure(value: u32, weight: u32, text: &mut [u8], place: usize) -> usize
+    requires { ⌜ 1 ≤ weight ⌝ }
+    ensures { λ r. ⌜ filled r (now (text .exit)) ≡ puts (figure value weight) (filled place (now (text .entry))) ⌝ }
+{
+    if weight <= value {
+        put(48 + (value / weight % 10) as u8, text, place)
+    } else {
+        place
+    }
+}
+
+// A number below 100,000 in decimal.
+pub fn put_decimal(value: u32, text: &mut [u8], place: usize) -> usize
+    ensures { λ r. ⌜ filled r (now (text .exit)) ≡ puts (decimal value) (filled place (now (text .entry))) ⌝ }
+{
+    let thousands = put_figure(value, 10000, text, place);
+    let hundreds = put_figure(value, 1000, text, thousands);
+    let tens = put_figure(value, 100, text, hundreds);
+    let ones = put_figure(value, 10, text, tens);
+    put(48 + (value % 10) as u8, text, ones)
+}
+
+// The number, and the byte that ends it.
+pub fn put_number(value: u32, end: u8, text: &mut [u8], place: usize) -> usize
+    ensures { λ r. ⌜ filled r (now (text .exit)) ≡ puts (number value end) (filled place (now (text .entry))) ⌝ }
+{
+    let at = put_decimal(value, text, place);
+    put(end, text, at)
+}

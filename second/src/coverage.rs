@@ -247,16 +247,10 @@ fn operation_reached(coverage: &mut Coverage, before: Registers, operation: u32,
 
 fn run_reached(coverage: &mut Coverage, case: &RunCase) {
     coverage.count("runs");
-    let mut registers = case.registers;
-    let mut memory = case.memory();
-    let mut points = vec![0; case.room];
-    let answer = run(
-        &mut registers,
-        &mut memory,
-        case.loan,
-        case.budget,
-        &mut points,
-    );
+    let whole = case.outcome(|registers, memory, points| {
+        run(registers, memory, case.loan, case.budget, points)
+    });
+    let answer = whole.answer;
     if answer.ending.number() < 10 {
         coverage.count(&format!("run refused {}", answer.ending.number()));
         return;
@@ -267,21 +261,10 @@ fn run_reached(coverage: &mut Coverage, case: &RunCase) {
     coverage.count_if(case.room == 1, "room 1");
     coverage.count_if(case.default > GREATEST_WORD, "default word above 4,095");
 
-    let mut stepwise = case.registers;
-    let mut stepwise_memory = case.memory();
-    let mut stepwise_points = vec![0; case.room];
-    let stepwise_answer = beat_by_beat(
-        coverage,
-        case,
-        &mut stepwise,
-        &mut stepwise_memory,
-        &mut stepwise_points,
-    );
-    let same = stepwise_answer == answer
-        && stepwise == registers
-        && stepwise_memory == memory
-        && stepwise_points == points;
-    coverage.count_if(!same, STEPWISE_DIFFERS);
+    let stepwise = case.outcome(|registers, memory, points| {
+        beat_by_beat(coverage, case, registers, memory, points)
+    });
+    coverage.count_if(stepwise != whole, STEPWISE_DIFFERS);
 }
 
 fn loan_reached(coverage: &mut Coverage, loan: Loan) {

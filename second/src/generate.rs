@@ -884,8 +884,8 @@ fn wild_run(chance: &mut Chance) -> RunCase {
 #[cfg(test)]
 mod tests {
     use super::*;
-    use crate::refusals_and_endings::{Answer, Ending};
-    use crate::replay::{read_case, replay, write_case};
+    use crate::refusals_and_endings::Ending;
+    use crate::replay::{read_case, replay, write_case, Outcome};
     use crate::turn::run;
 
     fn runs(seed: u64, count: usize) -> Vec<RunCase> {
@@ -899,24 +899,10 @@ mod tests {
         runs
     }
 
-    struct Outcome {
-        registers: Registers,
-        memory: Vec<u16>,
-        points: Vec<u32>,
-        answer: Answer,
-    }
-
     fn outcome(case: &RunCase, memory: Vec<u16>, loan: Loan, budget: u32) -> Outcome {
-        let mut registers = case.registers;
-        let mut memory = memory;
-        let mut points = vec![0; case.room];
-        let answer = run(&mut registers, &mut memory, loan, budget, &mut points);
-        Outcome {
-            registers,
-            memory,
-            points,
-            answer,
-        }
+        case.outcome_on(memory, |registers, memory, points| {
+            run(registers, memory, loan, budget, points)
+        })
     }
 
     #[test]

@@ -4,7 +4,7 @@ use std::fmt::Write as _;
 use std::io::{self, BufRead, Write};
 
 use crate::host_operations::operate;
-use crate::refusals_and_endings::{Loan, LoanRange};
+use crate::refusals_and_endings::{Answer, Loan, LoanRange};
 use crate::registers::{Bytes, Line, Motion, Registers, Side, State};
 use crate::turn::run;
 
@@ -59,6 +59,40 @@ impl RunCase {
         }
         memory
     }
+
+    /// What a run of the case leaves, made on lists of its own.
+    pub fn outcome(
+        &self,
+        run: impl FnOnce(&mut Registers, &mut [u16], &mut [u32]) -> Answer,
+    ) -> Outcome {
+        self.outcome_on(self.memory(), run)
+    }
+
+    /// The same on another memory.
+    pub fn outcome_on(
+        &self,
+        mut memory: Vec<u16>,
+        run: impl FnOnce(&mut Registers, &mut [u16], &mut [u32]) -> Answer,
+    ) -> Outcome {
+        let mut registers = self.registers;
+        let mut points = vec![0; self.room];
+        let answer = run(&mut registers, &mut memory, &mut points);
+        Outcome {
+            answer,
+            registers,
+            memory,
+            points,
+        }
+    }
+}
+
+/// The answer of a run, and the registers and lists that it left.
+#[derive(Clone, Debug, PartialEq, Eq)]
+pub struct Outcome {
+    pub answer: Answer,
+    pub registers: Registers,
+    pub memory: Vec<u16>,
+    pub points: Vec<u32>,
 }
 
 /// The numbers of a line, taken one by one. `None` means that the line is no case.
@@ -284,17 +318,14 @@ pub fn answer_case(case: &Case) -> String {
 }
 
 fn answer_run(case: &RunCase) -> String {
-    let before = case.memory();
-    let mut memory = before.clone();
-    let mut registers = case.registers;
-    let mut points = vec![0; case.room];
-    let answer = run(
-        &mut registers,
-        &mut memory,
-        case.loan,
-        case.budget,
-        &mut points,
-    );
+    let Outcome {
+        answer,
+        registers,
+        memory,
+        points,
+    } = case.outcome(|registers, memory, points| {
+        run(registers, memory, case.loan, case.budget, points)
+    });
     let mut line = String::from("run");
     number(&mut line, answer.ending.number());
     number(&mut line, answer.beats);
@@ -305,7 +336,7 @@ fn answer_run(case: &RunCase) -> String {
         number(&mut line, point);
     }
     line.push_str(" M");
-    for (address, (old, new)) in before.iter().zip(&memory).enumerate() {
+    for (address, (old, new)) in case.memory().iter().zip(&memory).enumerate() {
         if old != new {
             number(&mut line, address as u32);
             number(&mut line, *new);

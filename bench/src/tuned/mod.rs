@@ -118,22 +118,14 @@ fn commands(
 mod tests {
     use super::*;
     use second::generate::{next_case, Chance};
-    use second::replay::{Case, RunCase};
+    use second::replay::{Case, Outcome, RunCase};
 
     type Run = fn(&mut Registers, &mut [u16], Loan, u32, &mut [u32]) -> Answer;
 
-    fn outcome(case: &RunCase, run: Run) -> (Answer, Registers, Vec<u16>, Vec<u32>) {
-        let mut registers = case.registers;
-        let mut memory = case.memory();
-        let mut points = vec![0; case.room];
-        let answer = run(
-            &mut registers,
-            &mut memory,
-            case.loan,
-            case.budget,
-            &mut points,
-        );
-        (answer, registers, memory, points)
+    fn outcome(case: &RunCase, run: Run) -> Outcome {
+        case.outcome(|registers, memory, points| {
+            run(registers, memory, case.loan, case.budget, points)
+        })
     }
 
     #[test]

@@ -24,7 +24,8 @@ use Rattle.touches.specs.declared.Act.{Act}
 use Rattle.touches.specs.Touches.{Turn, Fails, Rests, Does, walk}
 use Rattle.touches.proofs.Fine.{GoodBeat, Inside, FineWalk, walk-fine}
 use Rattle.control_beats.proofs.Kept.{control-good}
-use Rattle.beats.specs.OneTurn.{longBeat, dataBeat, unheld, commandBeat, unusable, idleBeat, beatBy, beat, points, roomFor, turn}
+use Rattle.moves.specs.DataWords.{points}
+use Rattle.beats.specs.OneTurn.{longBeat, dataBeat, unheld, commandBeat, unusable, idleBeat, beatBy, beat, roomFor, turn}
 
 -- THE DISPATCH
 

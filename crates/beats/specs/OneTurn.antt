@@ -2,7 +2,7 @@
 -- of control words are in control_beats. Assumes nothing.
 use Prim.Native.Nat.{ℕ}
 use mathlib.Core.Bool.{Bool, false, _&&_, _||_}
-use mathlib.Core.List.{List, [], _∷_}
+use mathlib.Core.List.{List}
 use lib.Dec.{eqb, leb}
 use lib.ListN.{length}
 use Rattle.words.specs.Words.{pick}
@@ -10,11 +10,9 @@ use Rattle.addresses.specs.Addresses.{addressAfter}
 use Rattle.registers.specs.declared.Base.{Base}
 use Rattle.registers.specs.declared.Registers.{Registers}
 use Rattle.registers.specs.With.{withPen, withHold}
-use Rattle.moves.specs.declared.Lit.{Lit}
-use Rattle.moves.specs.declared.Lit.the-variants.{Dark, Point}
 use Rattle.moves.specs.declared.Moving.{Moving}
 use Rattle.moves.specs.declared.Moving.the-variants.{Still, Going}
-use Rattle.moves.specs.DataWords.{nextMove, displaced}
+use Rattle.moves.specs.DataWords.{points, nextMove, displaced}
 use Rattle.drawing.specs.DataWords.{point, increment, vector, shortVector, graphplot}
 use Rattle.loan.specs.declared.Loan.{Loan}
 use Rattle.touches.specs.declared.Why.the-variants.{Full}
@@ -67,11 +65,6 @@ beatBy b Still = idleBeat b
 
 abbrev pub beat : Registers → Beat
 beat r = beatBy (r .base) (nextMove (r .motion) (r .base .mode) (r .base .scale))
-
--- a beat lights at most one point
-abbrev pub points : Lit → List ℕ
-points Dark = []
-points (Point p) = p ∷ []
 
 -- test 5: the beat would light a point and the list is full: 18
 unfoldable pub roomFor : ℕ → Turn → Turn

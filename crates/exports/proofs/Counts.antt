@@ -16,10 +16,12 @@ use Rattle.moves.specs.declared.Lit.the-variants.{Dark, Point}
 use Rattle.loan.specs.declared.Loan.{Loan}
 use Rattle.loan.specs.Loan.{fairLoan}
 use Rattle.touches.specs.Touches.{Turn, Fails, Rests, Does}
-use Rattle.beats.specs.OneTurn.{points, turn}
-use Rattle.machine.specs.declared.Halt.{Halt}
-use Rattle.machine.specs.declared.Halt.the-variants.{Goes, Ends}
-use Rattle.machine.specs.Runs.{halted, Run, Go, follow, onward, run, entered, Left, call, numbered as answerNumbered}
+use Rattle.moves.specs.DataWords.{points}
+use Rattle.beats.specs.OneTurn.{turn}
+use Rattle.endings.specs.declared.Halt.{Halt}
+use Rattle.endings.specs.declared.Halt.the-variants.{Goes, Ends}
+use Rattle.endings.specs.Endings.{halted}
+use Rattle.machine.specs.Runs.{Run, Go, follow, onward, run, entered, Left, call, numbered as answerNumbered}
 
 pub reply-points : (q : Reply) → replyNumbered q .points < 4294967296
 reply-points (Refused number) = omega arith

@@ -19,12 +19,14 @@ use Rattle.touches.specs.declared.Stores.{Stores}
 use Rattle.touches.specs.declared.Stores.the-variants.{Nowhere, Two}
 use Rattle.touches.specs.declared.Why.the-variants.{Fetch, Wide}
 use Rattle.touches.specs.Touches.{Beat, fetch, act, rest, Turn, Fails, Rests, Does, got, onGot, walk}
-use Rattle.beats.specs.OneTurn.{beat, points, turn}
-use Rattle.machine.specs.declared.Ending.{Ending}
-use Rattle.machine.specs.declared.Ending.the-variants.{NotRunning, BudgetSpent, Failed}
-use Rattle.machine.specs.declared.Halt.{Halt}
-use Rattle.machine.specs.declared.Halt.the-variants.{Goes, Ends}
-use Rattle.machine.specs.Runs.{stored, rested, restEnding, halted, Run, ended, made, Go, follow, onward, run, entered}
+use Rattle.moves.specs.DataWords.{points}
+use Rattle.beats.specs.OneTurn.{beat, turn}
+use Rattle.endings.specs.declared.Ending.{Ending}
+use Rattle.endings.specs.declared.Ending.the-variants.{NotRunning, BudgetSpent, Failed}
+use Rattle.endings.specs.declared.Halt.{Halt}
+use Rattle.endings.specs.declared.Halt.the-variants.{Goes, Ends}
+use Rattle.endings.specs.Endings.{stored, rested, restEnding, halted}
+use Rattle.machine.specs.Runs.{Run, ended, made, Go, follow, onward, run, entered}
 use Rattle.fence.specs.Demand3.{Agree, Same}
 
 module _ (l : Loan) (m n : List ℕ) (h : Agree l m n) where

@@ -17,12 +17,14 @@ use Rattle.loan.specs.declared.Loan.{Loan}
 use Rattle.loan.specs.Loan.{mayStore, fairLoan, all}
 use Rattle.loan.proofs.Touches.{fair}
 use Rattle.touches.specs.Touches.{Turn, Fails, Rests, Does}
-use Rattle.beats.specs.OneTurn.{points, turn}
-use Rattle.machine.specs.declared.Ending.{Ending}
+use Rattle.moves.specs.DataWords.{points}
+use Rattle.beats.specs.OneTurn.{turn}
+use Rattle.endings.specs.declared.Ending.{Ending}
 use Rattle.machine.specs.declared.Answer.the-variants.{Refused, Ended}
-use Rattle.machine.specs.declared.Halt.{Halt}
-use Rattle.machine.specs.declared.Halt.the-variants.{Goes, Ends}
-use Rattle.machine.specs.Runs.{stored, halted, Run, Go, follow, onward, run, entered, Left, leaves, refusedRun, left, call}
+use Rattle.endings.specs.declared.Halt.{Halt}
+use Rattle.endings.specs.declared.Halt.the-variants.{Goes, Ends}
+use Rattle.endings.specs.Endings.{stored, halted}
+use Rattle.machine.specs.Runs.{Run, Go, follow, onward, run, entered, Left, leaves, refusedRun, left, call}
 use Rattle.fence.specs.Demand3.{Agree, Same, fenced, spent, SameCall}
 use Rattle.fence.proofs.Agreeing.{entered-agrees}
 use Rattle.fence.proofs.Keeping.{entered-keeps}

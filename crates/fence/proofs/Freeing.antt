@@ -24,12 +24,14 @@ use Rattle.touches.specs.declared.Stores.the-variants.{Nowhere, Two}
 use Rattle.touches.specs.declared.Why.{Why}
 use Rattle.touches.specs.declared.Why.the-variants.{Fetch, Store, Wide, Full}
 use Rattle.touches.specs.Touches.{Beat, fetch, act, rest, Turn, Fails, Rests, Does, got, onGot, storing, walk}
-use Rattle.beats.specs.OneTurn.{beat, points, roomFor, turn}
-use Rattle.machine.specs.declared.Ending.{Ending}
-use Rattle.machine.specs.declared.Ending.the-variants.{NotRunning, InternalStop, EdgeStop, Failed}
-use Rattle.machine.specs.declared.Halt.{Halt}
-use Rattle.machine.specs.declared.Halt.the-variants.{Goes, Ends}
-use Rattle.machine.specs.Runs.{stored, restEnding, halted, Run, ended, made, Go, follow, onward, run, entered}
+use Rattle.moves.specs.DataWords.{points}
+use Rattle.beats.specs.OneTurn.{beat, roomFor, turn}
+use Rattle.endings.specs.declared.Ending.{Ending}
+use Rattle.endings.specs.declared.Ending.the-variants.{NotRunning, InternalStop, EdgeStop, Failed}
+use Rattle.endings.specs.declared.Halt.{Halt}
+use Rattle.endings.specs.declared.Halt.the-variants.{Goes, Ends}
+use Rattle.endings.specs.Endings.{stored, restEnding, halted}
+use Rattle.machine.specs.Runs.{Run, ended, made, Go, follow, onward, run, entered}
 use Rattle.fence.specs.Demand3.{fenced, Outside, cut, AtFence}
 
 -- a turn t under the loan and u with all lent: t was stopped by the loan, or they are the same

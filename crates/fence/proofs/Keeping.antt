@@ -18,10 +18,12 @@ use Rattle.touches.specs.declared.Got.the-variants.{Word, Not}
 use Rattle.touches.specs.declared.Stores.{Stores}
 use Rattle.touches.specs.declared.Stores.the-variants.{Nowhere, Two}
 use Rattle.touches.specs.Touches.{Beat, fetch, act, rest, Turn, Fails, Rests, Does, got, onGot, storing, walk}
-use Rattle.beats.specs.OneTurn.{beat, points, roomFor, turn}
-use Rattle.machine.specs.declared.Halt.{Halt}
-use Rattle.machine.specs.declared.Halt.the-variants.{Goes, Ends}
-use Rattle.machine.specs.Runs.{stored, halted, Run, Go, follow, onward, run, entered}
+use Rattle.moves.specs.DataWords.{points}
+use Rattle.beats.specs.OneTurn.{beat, roomFor, turn}
+use Rattle.endings.specs.declared.Halt.{Halt}
+use Rattle.endings.specs.declared.Halt.the-variants.{Goes, Ends}
+use Rattle.endings.specs.Endings.{stored, halted}
+use Rattle.machine.specs.Runs.{Run, Go, follow, onward, run, entered}
 
 -- the loan allows what is stored
 abbrev Lent : Loan → Stores → Type 0

@@ -13,8 +13,8 @@ use Rattle.touches.specs.declared.Why.{Why}
 use Rattle.touches.specs.declared.Why.the-variants.{Fetch, Store, Wide, Full}
 use Rattle.touches.specs.Touches.{Fails}
 use Rattle.beats.specs.OneTurn.{turn}
-use Rattle.machine.specs.declared.Ending.{Ending}
-use Rattle.machine.specs.declared.Ending.the-variants.{NotRunning, BudgetSpent, InternalStop, ExternalStop, EdgeStop, UnusableMode, Failed}
+use Rattle.endings.specs.declared.Ending.{Ending}
+use Rattle.endings.specs.declared.Ending.the-variants.{NotRunning, BudgetSpent, InternalStop, ExternalStop, EdgeStop, UnusableMode, Failed}
 use Rattle.machine.specs.declared.Answer.the-variants.{Ended}
 use Rattle.machine.specs.Runs.{Run, entered, Left, call, numbered}
 

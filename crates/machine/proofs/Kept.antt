@@ -13,12 +13,14 @@ use Rattle.loan.specs.declared.Loan.{Loan}
 use Rattle.loan.specs.Loan.{fairLoan, Fair}
 use Rattle.loan.proofs.Touches.{fair}
 use Rattle.touches.specs.Touches.{Turn, Fails, Rests, Does}
-use Rattle.beats.specs.OneTurn.{points, turn}
+use Rattle.moves.specs.DataWords.{points}
+use Rattle.beats.specs.OneTurn.{turn}
 use Rattle.beats.proofs.Fine.{FineTurn, turn-fine}
-use Rattle.machine.specs.declared.Halt.{Halt}
-use Rattle.machine.specs.declared.Halt.the-variants.{Goes, Ends}
-use Rattle.machine.specs.Runs.{stored, halted, Run, Go, follow, onward, run, entered, Left, call, KeepsInRange}
-use Rattle.machine.proofs.Loop.{rested-good}
+use Rattle.endings.specs.declared.Halt.{Halt}
+use Rattle.endings.specs.declared.Halt.the-variants.{Goes, Ends}
+use Rattle.endings.specs.Endings.{stored, halted}
+use Rattle.machine.specs.Runs.{Run, Go, follow, onward, run, entered, Left, call, KeepsInRange}
+use Rattle.endings.proofs.Kept.{rested-good}
 
 module _ (l : Loan) (f : Fair l) where
   onward-good : (go : Go) → ((room : ℕ) (r : Registers) → Good r → (m : List ℕ) → Good (go room r m .registers)) →

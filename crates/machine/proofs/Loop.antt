@@ -3,7 +3,7 @@ use Prim.Native.Nat.{ℕ, suc, _+_, _-_, _≤_, _<_}
 use mathlib.Core.Path.{_≡_, refl, ap, _∙_}
 use mathlib.Core.Bool.{Bool}
 use mathlib.Core.List.{List, [], _++_, append-assoc, append-nil}
-use lib.ListN.{length, drop, length-append, length-set, length-drop}
+use lib.ListN.{length, drop, length-append, length-drop}
 use lib.Seq.{sets, sets-eq, take-at, drop-append-add, drop-drop}
 use native.Mathlib.Nat.{sub-zero, zero-add, add-zero}
 use native.Mathlib.Omega.{arith}
@@ -15,31 +15,25 @@ use Rattle.moves.specs.DataWords.{GoodLineIn}
 use Rattle.loan.specs.declared.Loan.{Loan}
 use Rattle.loan.specs.Loan.{Fair}
 use Rattle.touches.specs.declared.Act.{Act}
-use Rattle.touches.specs.declared.Stores.{Stores}
-use Rattle.touches.specs.declared.Stores.the-variants.{Nowhere, Two}
 use Rattle.touches.specs.declared.Resting.{Resting}
-use Rattle.touches.specs.declared.Resting.the-variants.{External, Unusable}
 use Rattle.touches.specs.declared.Why.{Why}
 use Rattle.touches.specs.Touches.{Fails, Rests, Does}
-use Rattle.beats.specs.OneTurn.{points, turn}
+use Rattle.moves.specs.DataWords.{points}
+use Rattle.beats.specs.OneTurn.{turn}
 use Rattle.beats.proofs.Fine.{Fine, turn-fine}
-use Rattle.machine.specs.declared.Ending.{Ending}
-use Rattle.machine.specs.declared.Ending.the-variants.{BudgetSpent, Failed}
-use Rattle.machine.specs.declared.Halt.the-variants.{Goes, Ends}
+use Rattle.endings.specs.declared.Ending.{Ending}
+use Rattle.endings.specs.declared.Ending.the-variants.{BudgetSpent, Failed}
+use Rattle.endings.specs.declared.Halt.the-variants.{Goes, Ends}
 use Rattle.machine.specs.declared.Answer.the-variants.{Ended}
 use Rattle.machine.specs.declared.Ran.{Ran}
-use Rattle.machine.specs.Runs.{stored, halted, rested, restEnding, Run, ended, made, follow, onward, run, leaves, left}
+use Rattle.endings.specs.Endings.{stored, halted, rested, restEnding}
+use Rattle.endings.proofs.Kept.{rested-good, length-stored}
+use Rattle.machine.specs.Runs.{Run, ended, made, follow, onward, run, leaves, left}
 
 -- a run after points and beats that were made before it
 abbrev pub after : List ℕ → ℕ → Run → Run
 after lit b f =
     record { registers = f .registers; memory = f .memory; lit = lit ++ f .lit; beats = b + f .beats; ending = f .ending }
-
--- a display that rests keeps its registers in range
-pub rested-good : (r : Registers) (resting : Resting) → Good r → Good (rested r resting)
-unfolding rested
-rested-good r External g = record { base = g .base; motion = g .motion }
-rested-good r Unusable g = record { base = g .base; motion = g .motion }
 
 line-in : (m : Motion) (datastate : Bool) (mode : ℕ) → GoodMotion m datastate mode → GoodLineIn m
 line-in Nothing datastate mode g = tt
@@ -60,10 +54,6 @@ pub record Far (l : Loan) (m₀ ps₀ : List ℕ) (k : ℕ) (r₀ : Registers) (
   pub good : Good r
   pub spent : b ≤ k
   pub whole : run k l (length ps₀) r₀ m₀ ≡ after lit b f
-
-length-stored : (s : Stores) (m : List ℕ) → length (stored s m) ≡ length m
-length-stored Nowhere m = refl
-length-stored (Two at word next second) m = simp length-set
 
 -- the points so far, with those of one beat more
 drawn-more : (lit ps₀ ps : List ℕ) (n : ℕ) → length lit ≡ n → n + length ps ≤ length ps₀ →

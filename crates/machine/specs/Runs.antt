@@ -2,52 +2,30 @@
 -- refusals. Memory, points and beats come out of the turns that the definition takes. Assumes nothing.
 use Prim.Native.Nat.{ℕ, zero, suc, _-_}
 use mathlib.Core.Path.{_≡_}
-use mathlib.Core.Bool.{true, false}
+use mathlib.Core.Bool.{true}
 use mathlib.Core.List.{List, [], _++_}
 use lib.Dec.{eqb, leb}
-use lib.ListN.{length, set, drop}
+use lib.ListN.{length, drop}
 use Rattle.words.specs.Words.{pick}
 use Rattle.registers.specs.declared.Registers.{Registers}
 use Rattle.registers.specs.Registers.{inRange}
-use Rattle.registers.specs.With.{withRunning, withRequest, withExternal}
-use Rattle.moves.specs.declared.Stop.{Stop}
-use Rattle.moves.specs.declared.Stop.the-variants.{On, Internal, Edge}
 use Rattle.loan.specs.declared.Loan.{Loan}
 use Rattle.loan.specs.Loan.{fairLoan}
 use Rattle.touches.specs.declared.Act.{Act}
-use Rattle.touches.specs.declared.Stores.{Stores}
-use Rattle.touches.specs.declared.Stores.the-variants.{Nowhere, Two}
-use Rattle.touches.specs.declared.Resting.{Resting}
-use Rattle.touches.specs.declared.Resting.the-variants.{External, Unusable}
-use Rattle.touches.specs.declared.Why.{Why}
-use Rattle.touches.specs.declared.Why.the-variants.{Fetch, Store, Wide, Full}
 use Rattle.touches.specs.Touches.{Turn, Fails, Rests, Does}
-use Rattle.beats.specs.OneTurn.{points, turn}
-use Rattle.machine.specs.declared.Ending.{Ending}
-use Rattle.machine.specs.declared.Ending.the-variants.{NotRunning, BudgetSpent, InternalStop, ExternalStop, EdgeStop, UnusableMode, Failed}
-use Rattle.machine.specs.declared.Halt.{Halt}
-use Rattle.machine.specs.declared.Halt.the-variants.{Goes, Ends}
+use Rattle.moves.specs.DataWords.{points}
+use Rattle.beats.specs.OneTurn.{turn}
+use Rattle.endings.specs.declared.Ending.{Ending}
+use Rattle.endings.specs.declared.Ending.the-variants.{NotRunning, BudgetSpent, Failed}
+use Rattle.endings.specs.declared.Halt.{Halt}
+use Rattle.endings.specs.declared.Halt.the-variants.{Goes, Ends}
+use Rattle.endings.specs.Endings.{stored, rested, restEnding, halted, endingNumber}
 use Rattle.machine.specs.declared.Answer.{Answer}
 use Rattle.machine.specs.declared.Answer.the-variants.{Refused, Ended}
 use Rattle.machine.specs.declared.Ran.{Ran}
 use Rattle.machine.specs.declared.Numbers.{Numbers}
 
 -- THE RUN
-
--- the words that a beat stores, in order
-abbrev pub stored : Stores → List ℕ → List ℕ
-stored Nowhere m = m
-stored (Two at word next second) m = set (set m (at .0) word) (next .0) second
-
--- a stop request: request off, external flag on, running off, 13; an unusable mode: running off, 15, no flag
-unfoldable pub rested : Registers → Resting → Registers
-rested r External =
-    record { base = withRunning (withExternal (withRequest (r .base) false) true) false; motion = r .motion }
-rested r Unusable = record { base = withRunning (r .base) false; motion = r .motion }
-
-unfoldable pub restEnding : Resting → Ending
-restEnding External = ExternalStop
-restEnding Unusable = UnusableMode
 
 -- what a run leaves: registers, memory, the lit points in order, beats and ending
 pub record Run : Type 0 where
@@ -68,12 +46,6 @@ made ps f =
 -- how a run goes on, by the room that is left, the registers and the memory
 abbrev pub Go : Type 0
 Go = ℕ → Registers → List ℕ → Run
-
--- a beat that stops the display ends the run with 12 or 14
-unfoldable pub halted : Stop → Halt
-halted On = Goes
-halted Internal = Ends InternalStop
-halted Edge = Ends EdgeStop
 
 abbrev pub follow : Go → ℕ → List ℕ → Act → Halt → Run
 follow go room m c Goes = go (room - length (points (c .lit))) (c .registers) (stored (c .stores) m)
@@ -135,21 +107,6 @@ KeepsInRange =
     (budget : ℕ) (l : Loan) (r : Registers) (m ps : List ℕ) → inRange r ≡ true → inRange (call budget l r m ps .ran .registers) ≡ true
 
 -- THIS PAPER'S NUMBERS for each answer: ending, word, beats and points. A run's word is 0
-
-unfoldable pub whyNumber : Why → ℕ
-whyNumber (Fetch a) = 16
-whyNumber (Store a) = 16
-whyNumber (Wide a) = 17
-whyNumber Full = 18
-
-unfoldable pub endingNumber : Ending → ℕ
-endingNumber NotRunning = 10
-endingNumber BudgetSpent = 11
-endingNumber InternalStop = 12
-endingNumber ExternalStop = 13
-endingNumber EdgeStop = 14
-endingNumber UnusableMode = 15
-endingNumber (Failed why) = whyNumber why
 
 abbrev pub numbered : Answer → Numbers
 numbered (Refused number) = record { ending = number; word = 0; beats = 0; points = 0 }

@@ -5,35 +5,14 @@ ghost use lib.ListN.{length};
 ghost use lib.Seq.{sets};
 ghost use Rattle.registers.specs.Registers.{Good};
 ghost use Rattle.loan.specs.Loan.{Fair};
-ghost use Rattle.touches.proofs.Fine.{Inside};
-ghost use Rattle.beats.specs.OneTurn.{points as pointsOf};
-ghost use Rattle.machine.specs.Runs.{stored, rested, restEnding, halted, refusedRun, run as runOf, left, leaves, entered, call, whyNumber, endingNumber, numbered, KeepsInRange};
+ghost use Rattle.moves.specs.DataWords.{points as pointsOf};
+ghost use Rattle.machine.specs.Runs.{refusedRun, run as runOf, left, leaves, entered, call, numbered, KeepsInRange};
+use endings::Ending;
+use endings::Halt;
 use loan::Loan;
 use moves::Lit;
-use moves::Stop;
-use registers::Base;
 use registers::Registers;
-use touches::Resting;
-use touches::Stores;
 use touches::Turn;
-use touches::Why;
-
-// How a run ended. What could not be made says why, with the address of the touch.
-pub enum Ending {
-    NotRunning,
-    BudgetSpent,
-    InternalStop,
-    ExternalStop,
-    EdgeStop,
-    UnusableMode,
-    Failed(Why),
-}
-
-// Whether the run goes on after a beat.
-pub enum Halt {
-    Goes,
-    Ends(Ending),
-}
 
 // A refusal's number, or the ending with the beats made and the points lit.
 pub enum Answer {
@@ -54,24 +33,6 @@ pub struct Numbers {
     pub points: usize,
 }
 
-fn store(stores: Stores, memory: &mut [u16])
-    requires { ⌜ Inside (length (now memory)) stores ⌝ }
-    ensures { λ _. ⌜ now (memory .exit) ≡ stored stores (now (memory .entry)) ⌝ }
-{
-    match stores {
-        Stores::Nowhere => {}
-        Stores::Two {
-            at,
-            word,
-            next,
-            second,
-        } => {
-            memory[at.0 as usize] = word;
-            memory[next.0 as usize] = second;
-        }
-    }
-}
-
 // Puts the point, if there is one, at a place, and answers the next place.
 fn put(lit: Lit, points: &mut [u32], place: usize) -> usize
     requires { ⌜ place + length (pointsOf lit) ≤ length (now points) ⌝ }
@@ -83,52 +44,6 @@ fn put(lit: Lit, points: &mut [u32], place: usize) -> usize
             points[place] = value;
             place + 1
         }
-    }
-}
-
-// The registers of a display that rests.
-fn rested(r: Registers, resting: Resting) -> Registers
-    ensures { λ q. ⌜ q ≡ rested r resting ⌝ }
-{
-    let b = r.base;
-    let motion = r.motion;
-    match resting {
-        Resting::External => {
-            let base = Base {
-                request: false,
-                external: true,
-                running: false,
-                ..b
-            };
-            Registers { base, motion }
-        }
-        Resting::Unusable => {
-            let base = Base {
-                running: false,
-                ..b
-            };
-            Registers { base, motion }
-        }
-    }
-}
-
-fn rest_ending(resting: Resting) -> Ending
-    ensures { λ r. ⌜ r ≡ restEnding resting ⌝ }
-{
-    match resting {
-        Resting::External => Ending::ExternalStop,
-        Resting::Unusable => Ending::UnusableMode,
-    }
-}
-
-// A beat that stops the display ends the run.
-fn halted(stop: Stop) -> Halt
-    ensures { λ r. ⌜ r ≡ halted stop ⌝ }
-{
-    match stop {
-        Stop::On => Halt::Goes,
-        Stop::Internal => Halt::Ends(Ending::InternalStop),
-        Stop::Edge => Halt::Ends(Ending::EdgeStop),
     }
 }
 
@@ -149,8 +64,8 @@ fn go(r: Registers, l: Loan, memory: &mut [u16], points: &mut [u32], budget: u32
                 };
             }
             Turn::Rests(resting) => {
-                let registers = rested(current, resting);
-                let ending = rest_ending(resting);
+                let registers = endings::rested(current, resting);
+                let ending = endings::rest_ending(resting);
                 return Ran {
                     registers,
                     answer: Answer::Ended(ending, beats, place),
@@ -163,7 +78,7 @@ fn go(r: Registers, l: Loan, memory: &mut [u16], points: &mut [u32], budget: u32
                 current = further;
                 beats += 1;
                 let halt = moved.stop;
-                match halted(halt) {
+                match endings::halted(halt) {
                     Halt::Goes => {}
                     Halt::Ends(ending) => {
                         return Ran {
@@ -176,13 +91,13 @@ fn go(r: Registers, l: Loan, memory: &mut [u16], points: &mut [u32], budget: u32
             Turn::Does(act) => {
                 let stores = act.stores;
                 let lit = act.lit;
-                store(stores, memory);
+                endings::store(stores, memory);
                 place = put(lit, points, place);
                 let next = act.registers;
                 current = next;
                 beats += 1;
                 let stop = act.stop;
-                match halted(stop) {
+                match endings::halted(stop) {
                     Halt::Goes => {}
                     Halt::Ends(ending) => {
                         return Ran {
@@ -247,31 +162,6 @@ pub fn run(r: Registers, l: Loan, memory: &mut [u16], points: &mut [u32], budget
     }
 }
 
-fn why_number(why: Why) -> u8
-    ensures { λ r. ⌜ r ≡ whyNumber why ⌝ }
-{
-    match why {
-        Why::Fetch(_) => 16,
-        Why::Store(_) => 16,
-        Why::Wide(_) => 17,
-        Why::Full => 18,
-    }
-}
-
-fn ending_number(ending: Ending) -> u8
-    ensures { λ r. ⌜ r ≡ endingNumber ending ⌝ }
-{
-    match ending {
-        Ending::NotRunning => 10,
-        Ending::BudgetSpent => 11,
-        Ending::InternalStop => 12,
-        Ending::ExternalStop => 13,
-        Ending::EdgeStop => 14,
-        Ending::UnusableMode => 15,
-        Ending::Failed(why) => why_number(why),
-    }
-}
-
 // The numbers that document 01 gives an answer.
 pub fn numbered(answer: Answer) -> Numbers
     ensures { λ r. ⌜ r ≡ numbered answer ⌝ }
@@ -284,7 +174,7 @@ pub fn numbered(answer: Answer) -> Numbers
             points: 0,
         },
         Answer::Ended(ending, beats, points) => Numbers {
-            ending: ending_number(ending),
+            ending: endings::ending_number(ending),
             word: 0,
             beats,
             points,

@@ -1,6 +1,7 @@
 -- Section 'Data words' of 01: move beats, lit points and edges. The paper's rules are in paper's file of this name, the words in drawing's. Assumes nothing.
 use Prim.Native.Nat.{ℕ, _+_, _-_, _*_, _/_, _%_}
 use mathlib.Core.Bool.{Bool, true, false, not, _&&_, _||_}
+use mathlib.Core.List.{List, [], _∷_}
 use lib.Dec.{eqb, ltb, leb}
 use Rattle.words.specs.Words.{bit, bits, pick}
 use Rattle.paper.specs.declared.Reached.{Reached}
@@ -27,6 +28,11 @@ beamSet b u v d h k r = record { x = u; y = v; conditions = b .conditions; addre
 unfoldable pub litAt : Base → ℕ → ℕ → Bool → Bool → Lit
 litAt b x y asked violated =
     pick ((asked || bit (b .conditions) 8) && sectorZero x y && not violated) (Point (point x y (b .intensity) (b .blink))) Dark
+
+-- a beat lights at most one point
+abbrev pub points : Lit → List ℕ
+points Dark = []
+points (Point p) = p ∷ []
 
 -- the beam arrives: unless condition bit 9 is set, a violation sets that axis's flag and stops; the move stands, wrapped; an escape takes effect, an edge
 -- stop included

@@ -11,7 +11,8 @@ use Rattle.registers.specs.declared.Motion.the-variants.{Nothing}
 use Rattle.registers.specs.Registers.{freshBase}
 use Rattle.registers.specs.With.{withX, withY, withConditions, withAddress, withPointer, withScale, withIntensity, withMode, withDatastate, withRunning, withPen}
 use Rattle.loan.specs.Loan.{all}
-use Rattle.machine.specs.Runs.{Run, entered, endingNumber}
+use Rattle.endings.specs.Endings.{endingNumber}
+use Rattle.machine.specs.Runs.{Run, entered}
 
 -- WHAT A ROW CAN ASK
 

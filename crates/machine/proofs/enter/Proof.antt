@@ -5,7 +5,7 @@ use mathlib.Core.Bool.{Bool}
 use lib.ListN.{length}
 use denote.Ref.{now}
 use Rattle.words.specs.Words.{pick}
-use Rattle.machine.specs.declared.Ending.the-variants.{NotRunning}
+use Rattle.endings.specs.declared.Ending.the-variants.{NotRunning}
 use Rattle.machine.specs.Runs.{ended, run, entered, left}
 use Rattle.machine.proofs.enter.Statement.{statement}
 use Rattle.machine.proofs.enter.Tie as tie

@@ -12,7 +12,8 @@ use Rattle.loan.specs.Loan.{within, mayFetch, mayStore}
 use Rattle.touches.specs.Touches.{got, storing, walk}
 use Rattle.control_beats.specs.ControlWords.{pushAct, jumpBeat, controlBeat}
 use Rattle.beats.specs.OneTurn.{longBeat, dataBeat, commandBeat, unusable, idleBeat, roomFor, turn}
-use Rattle.machine.specs.Runs.{halted, run, entered, endingNumber}
+use Rattle.endings.specs.Endings.{halted, endingNumber}
+use Rattle.machine.specs.Runs.{run, entered}
 use Rattle.sheet.specs.Sheet.{sheet, agrees, wrong, sameList, offsetsFrom, loaded}
 use Rattle.sheet.proofs.checked.Statement.{statement}
 use Rattle.sheet.proofs.checked.Tie as tie

@@ -1,8 +1,8 @@
--- `machine::halted` meets its promise: each arm is a clause of the definition. Assumes nothing.
+-- `endings::halted` meets its promise: each arm is a clause of the definition. Assumes nothing.
 use borrow.Author.Needs.{needs}
-use Rattle.machine.specs.Runs.{halted}
-use Rattle.machine.proofs.halted.Statement.{statement}
-use Rattle.machine.proofs.halted.Tie as tie
+use Rattle.endings.specs.Endings.{halted}
+use Rattle.endings.proofs.halted.Statement.{statement}
+use Rattle.endings.proofs.halted.Tie as tie
 
 pub halted-spec : {M : Type 1} → statement M
 unfolding halted

@@ -1,8 +1,8 @@
--- `machine::why_number` meets its promise: each arm is a clause of the definition. Assumes nothing.
+-- `endings::why_number` meets its promise: each arm is a clause of the definition. Assumes nothing.
 use borrow.Author.Needs.{needs}
-use Rattle.machine.specs.Runs.{whyNumber}
-use Rattle.machine.proofs.why_number.Statement.{statement}
-use Rattle.machine.proofs.why_number.Tie as tie
+use Rattle.endings.specs.Endings.{whyNumber}
+use Rattle.endings.proofs.why_number.Statement.{statement}
+use Rattle.endings.proofs.why_number.Tie as tie
 
 pub why-number-spec : {M : Type 1} → statement M
 unfolding whyNumber

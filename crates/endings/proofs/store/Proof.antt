@@ -1,8 +1,8 @@
--- `machine::store` meets its promise: the two words are set in order. Assumes nothing.
+-- `endings::store` meets its promise: the two words are set in order. Assumes nothing.
 use borrow.Author.Needs.{needs}
 use lib.ListN.{length-set}
-use Rattle.machine.proofs.store.Statement.{statement}
-use Rattle.machine.proofs.store.Tie as tie
+use Rattle.endings.proofs.store.Statement.{statement}
+use Rattle.endings.proofs.store.Tie as tie
 
 pub store-spec : {M : Type 1} → statement M
 store-spec =

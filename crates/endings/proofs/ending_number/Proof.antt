@@ -1,8 +1,8 @@
--- `machine::ending_number` meets its promise: each arm is a clause of the definition. Assumes nothing.
+-- `endings::ending_number` meets its promise: each arm is a clause of the definition. Assumes nothing.
 use borrow.Author.Needs.{needs}
-use Rattle.machine.specs.Runs.{endingNumber}
-use Rattle.machine.proofs.ending_number.Statement.{statement}
-use Rattle.machine.proofs.ending_number.Tie as tie
+use Rattle.endings.specs.Endings.{endingNumber}
+use Rattle.endings.proofs.ending_number.Statement.{statement}
+use Rattle.endings.proofs.ending_number.Tie as tie
 
 pub ending-number-spec : {M : Type 1} → statement M
 unfolding endingNumber

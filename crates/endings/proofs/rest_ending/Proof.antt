@@ -1,8 +1,8 @@
--- `machine::rest_ending` meets its promise: each arm is a clause of the definition. Assumes nothing.
+-- `endings::rest_ending` meets its promise: each arm is a clause of the definition. Assumes nothing.
 use borrow.Author.Needs.{needs}
-use Rattle.machine.specs.Runs.{restEnding}
-use Rattle.machine.proofs.rest_ending.Statement.{statement}
-use Rattle.machine.proofs.rest_ending.Tie as tie
+use Rattle.endings.specs.Endings.{restEnding}
+use Rattle.endings.proofs.rest_ending.Statement.{statement}
+use Rattle.endings.proofs.rest_ending.Tie as tie
 
 pub rest-ending-spec : {M : Type 1} → statement M
 unfolding restEnding

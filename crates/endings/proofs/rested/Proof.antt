@@ -1,8 +1,8 @@
--- `machine::rested` meets its promise: each arm is a clause of the definition. Assumes nothing.
+-- `endings::rested` meets its promise: each arm is a clause of the definition. Assumes nothing.
 use borrow.Author.Needs.{needs}
-use Rattle.machine.specs.Runs.{rested}
-use Rattle.machine.proofs.rested.Statement.{statement}
-use Rattle.machine.proofs.rested.Tie as tie
+use Rattle.endings.specs.Endings.{rested}
+use Rattle.endings.proofs.rested.Statement.{statement}
+use Rattle.endings.proofs.rested.Tie as tie
 
 pub rested-spec : {M : Type 1} → statement M
 unfolding rested

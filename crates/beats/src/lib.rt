@@ -1,10 +1,11 @@
 // A beat, by the registers that make it; and one turn of a run, which may end before the beat.
 ghost use mathlib.Core.Path.{_≡_};
+ghost use mathlib.Core.Bool.{true, false};
 ghost use lib.ListN.{length};
 ghost use Rattle.loan.specs.Loan.{Fair};
 ghost use Rattle.moves.specs.DataWords.{GoodLineIn};
 ghost use Rattle.touches.specs.Touches.{Does, whole, walk, said};
-ghost use Rattle.beats.specs.OneTurn.{longBeat, dataBeat, unheld, commandBeat, unusable, idleBeat, roomFor, turn};
+ghost use Rattle.beats.specs.OneTurn.{longBeat, dataBeat, unheld, commandBeat, unusable, idleBeat, roomFor, turn, Drawing};
 use loan::Loan;
 use moves::Lit;
 use moves::Moved;
@@ -65,7 +66,7 @@ fn data_beat(b: Base, word: u16, l: Loan, memory: &[u16], room: usize) -> Turn
 }
 
 // The end of pen hold, with which every command beat begins.
-fn unheld(b: Base) -> Base
+pub fn unheld(b: Base) -> Base
     ensures { λ r. ⌜ r ≡ unheld b ⌝ }
 {
     Base {
@@ -75,16 +76,13 @@ fn unheld(b: Base) -> Base
     }
 }
 
+// The beat of a data word: a command in data state.
 fn command_beat(b: Base, word: u16, l: Loan, memory: &[u16], room: usize) -> Turn
-    requires { ⌜ (length (now memory) ≡ 32768) × Fair l ⌝ }
+    requires { ⌜ (length (now memory) ≡ 32768) × Fair l × (b .datastate ≡ true) ⌝ }
     ensures { λ r. ⌜ said r ≡ roomFor room (walk l (now (memory .entry)) (commandBeat b word)) ⌝ }
 {
     let ready = unheld(b);
-    if ready.datastate {
-        data_beat(ready, word, l, memory, room)
-    } else {
-        control_beats::control_beat(ready, word, l, memory)
-    }
+    data_beat(ready, word, l, memory, room)
 }
 
 // Data state in a mode that the display has not.
@@ -94,9 +92,9 @@ fn unusable(b: Base) -> bool
     b.datastate & ((b.mode == 5) | (b.mode == 7))
 }
 
-// No motion: a stop request, an unusable mode, or the next command.
+// No motion: a stop request, an unusable mode, or the next data word.
 fn idle_beat(b: Base, l: Loan, memory: &[u16], room: usize) -> Turn
-    requires { ⌜ (length (now memory) ≡ 32768) × Fair l ⌝ }
+    requires { ⌜ (length (now memory) ≡ 32768) × Fair l × (b .request ≡ false → b .datastate ≡ true) ⌝ }
     ensures { λ r. ⌜ said r ≡ roomFor room (walk l (now (memory .entry)) (idleBeat b)) ⌝ }
 {
     if b.request {
@@ -111,9 +109,9 @@ fn idle_beat(b: Base, l: Loan, memory: &[u16], room: usize) -> Turn
     }
 }
 
-// One turn: the beat, if its touches can be made and there is room for its point.
+// One turn: the beat, if its touches can be made and there is room for its point. Control words are control_sequence's.
 pub fn one_turn(r: Registers, l: Loan, memory: &[u16], room: usize) -> Turn
-    requires { ⌜ (length (now memory) ≡ 32768) × Fair l × GoodLineIn (r .motion) ⌝ }
+    requires { ⌜ (length (now memory) ≡ 32768) × Fair l × GoodLineIn (r .motion) × Drawing r ⌝ }
     ensures { λ q. ⌜ said q ≡ turn l room r (now (memory .entry)) ⌝ }
 {
     let m = r.motion;

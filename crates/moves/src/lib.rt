@@ -72,7 +72,7 @@ fn beam_set(
 }
 
 // The point that a beat lights where the beam arrives.
-fn lit_at(b: Base, x: u16, y: u16, asked: bool, violated: bool) -> Lit
+pub fn lit_at(b: Base, x: u16, y: u16, asked: bool, violated: bool) -> Lit
     ensures { λ r. ⌜ r ≡ litAt b x y asked violated ⌝ }
 {
     let all = words::bit(b.conditions, 8);
@@ -196,7 +196,7 @@ fn byte_next(t: ByteMotion, escape: bool) -> Motion
     }
 }
 
-fn byte_move(t: ByteMotion, distance: u16) -> Move
+pub fn byte_move(t: ByteMotion, distance: u16) -> Move
     ensures { λ r. ⌜ r ≡ byteMove t distance ⌝ }
 {
     let byte = registers::byte_at(t.word, t.right);

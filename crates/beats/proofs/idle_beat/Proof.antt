@@ -18,7 +18,7 @@ idle-beat-spec =
     (λ c κs. search needs)
     (λ c κs. search needs)
     (λ c. search needs)
-    (λ c κs. search needs)
+    (λ c κs. let p = c .before .before .before .before .before .before .before .before .pre in (p .0, p .1, p .2 (c .before .before .before .before .before .before .if1 .left)))
     (λ c. search needs)
     (λ c. let a = c .before .before .args in sym (ap (roomFor (a .room)) (walk-idle (a .l) (now (a .memory)) (a .b) (c .if1 .taken) refl)))
     (λ c. let a = c .before .before .before .before .args in sym (ap (roomFor (a .room)) (walk-idle (a .l) (now (a .memory)) (a .b) (c .before .before .if1 .left) (sym (c .before .unusable .ensures) ∙ c .if2 .taken))))

@@ -3,6 +3,7 @@ use mathlib.Core.Path.{_≡_, sym, ap, _∙_}
 use denote.Ref.{now}
 use Rattle.touches.specs.Touches.{Does, whole, storing, walk}
 use Rattle.beats.specs.OneTurn.{beatBy, beat, roomFor, turn}
+use Rattle.beats.proofs.Walk.{still}
 use borrow.Author.Needs.{needs}
 use Rattle.beats.proofs.one_turn.Statement.{statement}
 use Rattle.beats.proofs.one_turn.Tie as tie
@@ -17,7 +18,7 @@ one-turn-spec =
     (λ c κs. search needs)
     (λ c κs. search needs)
     (λ c. search needs)
-    (λ c κs. search needs)
+    (λ c κs. let p = c .before .before .before .before .before .pre in (p .0, p .1, p .3 (still _ _ _ (sym (c .before .before .next-move .ensures) ∙ c .enum-told .given .1))))
     (λ c. let a = c .before .before .before .before .before .before .before .before .args in
     let w : Does (whole (c .before .displaced .result)) ≡ walk (a .l) (now (a .memory)) (beat (a .r)) = rw (c .before .displaced .ensures) (sym (ap (λ z. walk (a .l) (now (a .memory)) (beatBy (a .r .base) z)) (sym (c .before .before .before .before .before .next-move .ensures) ∙ c .before .before .before .v .given .1))) in
     c .roomed .ensures ∙ ap (roomFor (a .room)) w)

@@ -81,9 +81,6 @@ module _ (l : Loan) (m : List ℕ) where
   beat-bare (act c) h = storing-bare c h (c .stores)
   beat-bare (rest resting) h = absurd h
 
-  pub walk-bare : (b : Base) (w : ℕ) → Bare (walk l m (controlBeat b w))
-  walk-bare b w = beat-bare (controlBeat b w) (control-bare b w)
-
   pub next-bare : (b : Base) → Bare (walk l m (nextWord b))
   next-bare b = beat-bare (nextWord b) (control-bare (unheld b))
 

@@ -22,6 +22,7 @@ use Rattle.moves.specs.declared.Moved.{Moved as MovedBeat}
 use Rattle.moves.specs.declared.Moving.{Moving}
 use Rattle.moves.specs.declared.Moving.the-variants.{Still, Going}
 use Rattle.moves.specs.DataWords.{points, nextMove, displaced}
+use Rattle.moves.proofs.Kept.{neither}
 use Rattle.move_sequence.specs.PlainMoves.{plain, Left as Moves, onMove, sequence}
 use Rattle.move_sequence.proofs.Plain.{both, plainly}
 use Rattle.loan.specs.declared.Loan.{Loan}
@@ -76,11 +77,6 @@ words-left (suc k) l b m =
         on : obeyed k l (c .registers .base) (stored (c .stores) m) .obeyed .left ≤ k → (x : Halt) → follow (obeyed k l) k m c x .obeyed .left ≤ suc k
         on h Goes = omega arith
         on h (Ends ending) = omega arith
-
--- neither holds
-neither : (a c : Bool) → (a || c) ≡ false → (a ≡ false) × (c ≡ false)
-neither false c h = (refl, h)
-neither true c h = (h, cc)
 
 module _ (l : Loan) (fair : Fair l) (m₀ ps₀ : List ℕ) (k : ℕ) (r₀ : Registers) where
   -- the loop's head

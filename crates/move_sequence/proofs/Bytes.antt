@@ -4,8 +4,7 @@ use mathlib.Core.Path.{_≡_, refl, ap, sym, subst, _∙_}
 use mathlib.Core.Bool.{Bool, true, false, not, _&&_, and-true, and-false}
 use mathlib.Core.List.{List}
 use native.Mathlib.Omega.{arith}
-use lib.ListN.{length, set}
-use lib.Seq.{sets}
+use lib.ListN.{length}
 use Rattle.words.specs.Words.{bits}
 use Rattle.words.proofs.Laws.{pick-case}
 use Rattle.paper.specs.DataWords.{distance, dimension, step, clear}
@@ -16,13 +15,12 @@ use Rattle.registers.specs.declared.Motion.{Motion}
 use Rattle.registers.specs.declared.Motion.the-variants.{Bytes}
 use Rattle.registers.specs.declared.Registers.{Registers}
 use Rattle.moves.specs.declared.Lit.{Lit}
-use Rattle.moves.specs.declared.Lit.the-variants.{Dark, Point}
+use Rattle.moves.specs.declared.Lit.the-variants.{Point}
 use Rattle.moves.specs.declared.Move.{Move}
 use Rattle.moves.specs.declared.Moving.the-variants.{Going}
-use Rattle.moves.specs.DataWords.{litAt, points, byteNext, byteMove, nextMove}
-use Rattle.move_sequence.specs.declared.Sequence.{Sequence}
-use Rattle.move_sequence.specs.PlainMoves.{goesOn, plain, leaves, sequence, beamAt}
-use Rattle.move_sequence.proofs.Plain.{at, tested, Far, violates, fills, goes}
+use Rattle.moves.specs.DataWords.{litAt, byteNext, byteMove, nextMove}
+use Rattle.move_sequence.specs.PlainMoves.{goesOn, plain, beamAt}
+use Rattle.move_sequence.proofs.Plain.{tested, Shown, Put, Far, violates, fills, goes}
 
 -- the tests in the order of the code, where the motion goes on
 reordered : (going escape continues x y : Bool) → going ≡ true → continues ≡ false →
@@ -61,16 +59,6 @@ pub record Along (n₀ : ℕ) (r₀ : Registers) (ps₀ : List ℕ) (place₀ : 
   pub reach : travel ≡ distance (b .scale)
   pub far : Far n₀ r₀ ps₀ place₀ b n x y (Bytes t) ps place
 
--- what a move leaves of the point list and its place: both as they were, or with one point more
-pub data Put (lit : Lit) (ps : List ℕ) (place : ℕ) (ps′ : List ℕ) (place′ : ℕ) : Type 0 where
-  none : lit ≡ Dark → ps′ ≡ ps → place′ ≡ place → Put lit ps place ps′ place′
-  one : {value : ℕ} → lit ≡ Point value → place < length ps → ps′ ≡ set ps place value → place′ ≡ place + 1 → Put lit ps place ps′ place′
-
-put-at : (lit : Lit) (ps : List ℕ) (place : ℕ) (ps′ : List ℕ) (place′ : ℕ) → place ≤ length ps → Put lit ps place ps′ place′ →
-    (place + length (points lit) ≤ length ps) × (ps′ ≡ sets ps place (points lit)) × (place′ ≡ place + length (points lit))
-put-at lit ps place ps′ place′ room (none u eps eplace) = rw u (omega arith, eps, omega arith)
-put-at lit ps place ps′ place′ room (one u less eps eplace) = rw u (omega arith, eps, omega arith)
-
 module _ {n₀ : ℕ} {r₀ : Registers} {ps₀ : List ℕ} {place₀ : ℕ} {b : Base} {fieldx fieldy travel n x y : ℕ} {t : ByteMotion} {ps : List ℕ} {place : ℕ}
     (a : Along n₀ r₀ ps₀ place₀ b fieldx fieldy travel n x y t ps place) (some : 0 < n) {v : Move} (moves : v ≡ byteMove t travel) where
   as-defined : v ≡ byteMove t (distance (b .scale))
@@ -93,8 +81,7 @@ module _ {n₀ : ℕ} {r₀ : Registers} {ps₀ : List ℕ} {place₀ : ℕ} {b 
   tests = tested (beamAt b x y) v (a .far .good .base .x) (a .far .good .base .y) near-x near-y
 
   -- a move that no byte follows is not made
-  pub ends : ((next : ByteMotion) → v .motion ≡ Bytes next → ⊥) → (s : Sequence) → s ≡ record { registers = at b x y (Bytes t); place = place; left = n } →
-      leaves s ps ≡ sequence n₀ r₀ ps₀ place₀
+  pub ends : ((next : ByteMotion) → v .motion ≡ Bytes next → ⊥) → Shown n₀ r₀ ps₀ place₀ b n x y (Bytes t) ps place
   ends h = violates (a .far) fewer next-move (tests ∙ rw (ap (λ (w : Move). goesOn (w .motion)) moves ∙ motion-last t travel (rw moves at h)))
 
   -- bytes follow, and the code has tested
@@ -108,26 +95,24 @@ module _ {n₀ : ℕ} {r₀ : Registers} {ps₀ : List ℕ} {place₀ : ℕ} {b 
         ∙ rw (cx, cy, a .axisx, a .axisy, sx, sy)
 
     -- a move that is not clear or escapes is not made
-    pub stops : (clearx && cleary && not (v .escape)) ≡ false → (s : Sequence) → s ≡ record { registers = at b x y (Bytes t); place = place; left = n } →
-        leaves s ps ≡ sequence n₀ r₀ ps₀ place₀
+    pub stops : (clearx && cleary && not (v .escape)) ≡ false → Shown n₀ r₀ ps₀ place₀ b n x y (Bytes t) ps place
     stops e = violates (a .far) fewer next-move (test ∙ e)
 
     -- any other, with where it arrives and what it lights
     module _ (e : (clearx && cleary && not (v .escape)) ≡ true) {x′ y′ : ℕ} (ex : x′ ≡ (x + stepx) % 2 ^ 16) (ey : y′ ≡ (y + stepy) % 2 ^ 16)
         {lit : Lit} (el : lit ≡ litAt b x′ y′ (v .asked) false) where
       -- without room for its point it is not made
-      pub crammed : {value : ℕ} → lit ≡ Point value → length ps ≤ place → (s : Sequence) → s ≡ record { registers = at b x y (Bytes t); place = place; left = n } →
-          leaves s ps ≡ sequence n₀ r₀ ps₀ place₀
+      pub crammed : {value : ℕ} → lit ≡ Point value → length ps ≤ place → Shown n₀ r₀ ps₀ place₀ b n x y (Bytes t) ps place
       crammed u f = fills (a .far) fewer next-move near-x near-y (test ∙ e) (ex ∙ rw sx) (ey ∙ rw sy) el (rw u (omega arith))
 
       -- with room for it, it is made
       pub onwards : {ps′ : List ℕ} {place′ : ℕ} → Put lit ps place ps′ place′ → Along n₀ r₀ ps₀ place₀ b fieldx fieldy travel (n - 1) x′ y′ next ps′ place′
       onwards {ps′} {place′} w =
-          let q = put-at lit ps place ps′ place′ (a .far .room) w in
-          let f = goes (a .far) fewer next-move near-x near-y (test ∙ e) (ex ∙ rw sx) (ey ∙ rw sy) el (q .0) in
           record {
             axisx = a .axisx;
             axisy = a .axisy;
             reach = a .reach;
-            far = rw (q .1, q .2) (subst (λ (m : Motion). Far n₀ r₀ ps₀ place₀ b (n - 1) x′ y′ m (sets ps place (points lit)) (place + length (points lit))) follows f);
+            far =
+                subst (λ (m : Motion). Far n₀ r₀ ps₀ place₀ b (n - 1) x′ y′ m ps′ place′) follows
+                (goes (a .far) fewer next-move near-x near-y (test ∙ e) (ex ∙ rw sx) (ey ∙ rw sy) el w);
           }

@@ -2,14 +2,13 @@
 -- of the loop, and out of it, is a law over `Along`. Assumes nothing.
 use Prim.Native.Nat.{ℕ, zero, suc, _+_, _-_, _*_, _%_, _^_, _≤_, _<_}
 use mathlib.Core.Path.{_≡_, refl, sym, _∙_}
-use mathlib.Core.Bool.{Bool, true, false, not, _&&_, _||_}
+use mathlib.Core.Bool.{Bool, true, false, not, _&&_}
 use mathlib.Core.List.{List}
 use mathlib.Core.Logic.{_⊎_, inl, inr, ⊎-elim}
 use native.Mathlib.Nat.{le-trans}
 use native.Mathlib.Omega.{arith}
-use lib.Dec.{eqb, ltb}
-use lib.ListN.{length, set}
-use lib.Seq.{sets}
+use lib.Dec.{eqb, ltb, leb}
+use lib.ListN.{length}
 use borrow.Author.Tests.{ltb-true, ltb-false, lt-ltb, le-ltb, lt-leb}
 use Rattle.words.specs.Words.{bits, pick}
 use Rattle.words.proofs.Laws.{pick-case}
@@ -24,13 +23,13 @@ use Rattle.registers.specs.declared.Registers.{Registers}
 use Rattle.registers.specs.Registers.{Good}
 use Rattle.registers.proofs.InRange.{line-bounds}
 use Rattle.moves.specs.declared.Lit.{Lit}
-use Rattle.moves.specs.declared.Lit.the-variants.{Dark, Point}
+use Rattle.moves.specs.declared.Lit.the-variants.{Point}
 use Rattle.moves.specs.declared.Move.{Move}
 use Rattle.moves.specs.declared.Moving.the-variants.{Going}
-use Rattle.moves.specs.DataWords.{litAt, points, withDone, lineNext, lineMove, nextMove}
-use Rattle.move_sequence.specs.declared.Sequence.{Sequence}
-use Rattle.move_sequence.specs.PlainMoves.{goesOn, plain, leaves, sequence, beamAt}
-use Rattle.move_sequence.proofs.Plain.{at, tested, Far, spent, violates, fills, goes}
+use Rattle.moves.specs.DataWords.{litAt, withDone, lineNext, lineMove, nextMove}
+use Rattle.moves.proofs.Kept.{waits}
+use Rattle.move_sequence.specs.PlainMoves.{goesOn, plain, sequence, beamAt}
+use Rattle.move_sequence.proofs.Plain.{at, tested, Shown, Put, Far, spent, violates, fills, goes}
 
 -- the registers with the beam at x and y and k moves of the line done
 abbrev onLine : Base → LineMotion → ℕ → ℕ → ℕ → Registers
@@ -44,12 +43,6 @@ next : (b : Base) (l : LineMotion) (k : ℕ) → nextMove (Line (withDone l k)) 
 unfolding nextMove
 next b l k = refl
 
--- a line does not escape before its last move
-waits : (escape last continues : Bool) → last ≡ false → (escape && (last || continues) && not continues) ≡ false
-waits false last continues h = refl
-waits true last true h = rw h
-waits true last false h = rw h
-
 -- a move that is not the line's last
 module _ (b : Base) (l : LineMotion) (x y k : ℕ) (g : Good (onLine b l x y k)) (less : k + 1 < l .moves) where
   line-on : lineFrom b l k .motion ≡ Line (withDone l (k + 1))
@@ -58,7 +51,7 @@ module _ (b : Base) (l : LineMotion) (x y k : ℕ) (g : Good (onLine b l x y k))
 
   quiet : (lineFrom b l k .escape && not (lineFrom b l k .continues)) ≡ false
   unfolding lineMove
-  quiet = waits (l .escape) _ _ (lt-leb (l .moves) (k + 1) less)
+  quiet = waits (l .escape) (leb (l .moves) (k + 1)) (eqb (b .mode) 3) (rw (lt-leb (l .moves) (k + 1) less))
 
   short : (lineFrom b l k .travelx ≤ 8) × (lineFrom b l k .travely ≤ 8)
   unfolding lineMove
@@ -135,20 +128,17 @@ start {l = l} {limit = limit} {last = last} g room ex ey fx fy e =
       far = record { size = refl; room = room; good = g; whole = rw all };
     }
 
--- a call that returns here shows the sequence
-abbrev Shown : Base → LineMotion → List ℕ → ℕ → ℕ → List ℕ → ℕ → ℕ → ℕ → ℕ → Type 0
-Shown b l ps₀ from limit ps x y done place =
-    (t : Sequence) →
-    t ≡ record { registers = onLine b l x y done; place = place; left = limit - (done - l .done) } →
-    leaves t ps ≡ sequence limit (record { base = b; motion = Line l }) ps₀ from
-
 module _ {b : Base} {l : LineMotion} {ps₀ : List ℕ} {from limit fieldx fieldy forwardx forwardy last : ℕ} {ps : List ℕ} {x y done place : ℕ}
     (a : Along b l ps₀ from limit fieldx fieldy forwardx forwardy last ps x y done place) where
+  -- a call that returns here shows the sequence
+  abbrev Shows : Type 0
+  Shows = Shown limit (record { base = b; motion = Line l }) ps₀ from b (limit - (done - l .done)) x y (Line (withDone l done)) ps place
+
   -- behind the loop no move is left, or the line's last one is next
-  pub over : last ≤ done → Shown b l ps₀ from limit ps x y done place
+  pub over : last ≤ done → Shows
   over h = by (limit - (done - l .done)) refl
     where
-      by : (n : ℕ) → limit - (done - l .done) ≡ n → Shown b l ps₀ from limit ps x y done place
+      by : (n : ℕ) → limit - (done - l .done) ≡ n → Shows
       by zero e = spent (a .far) e
       by (suc n) e =
           violates (a .far) e (next b l done)
@@ -168,7 +158,7 @@ module _ {b : Base} {l : LineMotion} {ps₀ : List ℕ} {from limit fieldx field
     tests = line-plain b l x y done (a .far .good) less ∙ rw (cx, cy, sx, sy, a .axisx, a .axisy, a .onwardx, a .onwardy)
 
     -- a move that is not clear is not made
-    pub edge : (clearx && cleary) ≡ false → Shown b l ps₀ from limit ps x y done place
+    pub edge : (clearx && cleary) ≡ false → Shows
     edge e = violates (a .far) some (next b l done) (tests ∙ e)
 
     -- a move that is clear, with where it arrives and what it lights
@@ -185,15 +175,15 @@ module _ {b : Base} {l : LineMotion} {ps₀ : List ℕ} {from limit fieldx field
       asked = el
 
       -- without room for its point it is not made
-      pub crammed : {value : ℕ} → lit ≡ Point value → length ps ≤ place → Shown b l ps₀ from limit ps x y done place
+      pub crammed : {value : ℕ} → lit ≡ Point value → length ps ≤ place → Shows
       crammed u f =
           let n = short b l x y done (a .far .good) less in
           fills (a .far) some (next b l done) (n .0) (n .1) (tests ∙ e) there-x there-y asked (rw u (omega arith))
 
       -- with room for it, it is made
-      onwards : place + length (points lit) ≤ length ps →
-          Along b l ps₀ from limit fieldx fieldy forwardx forwardy last (sets ps place (points lit)) nextx nexty (done + 1) (place + length (points lit))
-      onwards f =
+      pub onwards : {ps′ : List ℕ} {place′ : ℕ} → Put lit ps place ps′ place′ →
+          Along b l ps₀ from limit fieldx fieldy forwardx forwardy last ps′ nextx nexty (done + 1) place′
+      onwards w =
           let n = short b l x y done (a .far .good) less in
           record {
             axisx = a .axisx;
@@ -204,19 +194,5 @@ module _ {b : Base} {l : LineMotion} {ps₀ : List ℕ} {from limit fieldx field
             begun = omega (arith, a .begun);
             reached = omega arith;
             far =
-                rw (line-on b l x y done (a .far .good) less) at (goes (a .far) some (next b l done) (n .0) (n .1) (tests ∙ e) there-x there-y asked f);
+                rw (line-on b l x y done (a .far .good) less) at (goes (a .far) some (next b l done) (n .0) (n .1) (tests ∙ e) there-x there-y asked w);
           }
-
-      -- by what the code found lit, with the point list and the next place that it left
-      made : {q : Lit} {ps′ : List ℕ} {place′ : ℕ} →
-          lit ≡ q → place + length (points q) ≤ length ps → ps′ ≡ sets ps place (points q) → place′ ≡ place + length (points q) →
-          Along b l ps₀ from limit fieldx fieldy forwardx forwardy last ps′ nextx nexty (done + 1) place′
-      made u f v w = rw (v, w, ← u) (onwards (rw u f))
-
-      pub made-dark : {ps′ : List ℕ} {place′ : ℕ} → lit ≡ Dark → ps′ ≡ ps → place′ ≡ place →
-          Along b l ps₀ from limit fieldx fieldy forwardx forwardy last ps′ nextx nexty (done + 1) place′
-      made-dark u v w = made u (omega (arith, a .far .room)) v (omega arith)
-
-      pub made-lit : {value : ℕ} {ps′ : List ℕ} {place′ : ℕ} → lit ≡ Point value → place < length ps → ps′ ≡ set ps place value → place′ ≡ place + 1 →
-          Along b l ps₀ from limit fieldx fieldy forwardx forwardy last ps′ nextx nexty (done + 1) place′
-      made-lit u f v w = made u (omega arith) v (omega arith)

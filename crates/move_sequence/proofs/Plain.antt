@@ -4,8 +4,9 @@ use Prim.Native.Nat.{ℕ, suc, _+_, _%_, _^_, _≤_, _<_}
 use mathlib.Core.Path.{_≡_, refl, ap, sym, _∙_}
 use mathlib.Core.Bool.{Bool, true, false, not, _&&_, _||_, and-true, and-false, or-false}
 use mathlib.Core.List.{List}
+use native.Mathlib.Omega.{arith}
 use lib.Dec.{leb}
-use lib.ListN.{length}
+use lib.ListN.{length, set}
 use lib.Seq.{sets, length-sets}
 use borrow.Author.Tests.{not-true, le-leb, lt-leb}
 use Rattle.words.specs.Words.{bits, pick}
@@ -17,6 +18,7 @@ use Rattle.registers.specs.declared.Motion.{Motion}
 use Rattle.registers.specs.declared.Registers.{Registers}
 use Rattle.registers.specs.Registers.{Good}
 use Rattle.moves.specs.declared.Lit.{Lit}
+use Rattle.moves.specs.declared.Lit.the-variants.{Dark, Point}
 use Rattle.moves.specs.declared.Move.{Move}
 use Rattle.moves.specs.declared.Moved.{Moved}
 use Rattle.moves.specs.declared.Moving.the-variants.{Going}
@@ -124,21 +126,34 @@ pub record Far (n₀ : ℕ) (r₀ : Registers) (ps₀ : List ℕ) (place₀ : �
   pub good : Good (at b x y m)
   pub whole : sequence n₀ r₀ ps₀ place₀ ≡ sequence n (at b x y m) ps place
 
+-- a call that returns here shows the sequence
+abbrev pub Shown : ℕ → Registers → List ℕ → ℕ → Base → ℕ → ℕ → ℕ → Motion → List ℕ → ℕ → Type 0
+Shown n₀ r₀ ps₀ place₀ b n x y m ps place = (t : Sequence) → t ≡ record { registers = at b x y m; place = place; left = n } → leaves t ps ≡ sequence n₀ r₀ ps₀ place₀
+
+-- what the code leaves of the point list and the next place in it: both as they were, or with one point more
+pub data Put (lit : Lit) (ps : List ℕ) (place : ℕ) (ps′ : List ℕ) (place′ : ℕ) : Type 0 where
+  none : lit ≡ Dark → ps′ ≡ ps → place′ ≡ place → Put lit ps place ps′ place′
+  one : {value : ℕ} → lit ≡ Point value → place < length ps → ps′ ≡ set ps place value → place′ ≡ place + 1 → Put lit ps place ps′ place′
+
+put-at : (lit : Lit) (ps : List ℕ) (place : ℕ) (ps′ : List ℕ) (place′ : ℕ) → place ≤ length ps → Put lit ps place ps′ place′ →
+    (place + length (points lit) ≤ length ps) × (ps′ ≡ sets ps place (points lit)) × (place′ ≡ place + length (points lit))
+put-at lit ps place ps′ place′ room (none u eps eplace) = rw u (omega arith, eps, omega arith)
+put-at lit ps place ps′ place′ room (one u less eps eplace) = rw u (omega arith, eps, omega arith)
+
 module _ {n₀ : ℕ} {r₀ : Registers} {ps₀ : List ℕ} {place₀ : ℕ} {b : Base} {n x y : ℕ} {m : Motion} {ps : List ℕ} {place : ℕ}
     (h : Far n₀ r₀ ps₀ place₀ b n x y m ps place) where
   -- where the sequence stays here, the call shows it
   shows : sequence n (at b x y m) ps place ≡ stays n (at b x y m) ps place →
-      (t : Sequence) → t ≡ record { registers = at b x y m; place = place; left = n } → leaves t ps ≡ sequence n₀ r₀ ps₀ place₀
+      Shown n₀ r₀ ps₀ place₀ b n x y m ps place
   shows e t q = ap (λ (s : Sequence). leaves s ps) q ∙ sym (h .whole ∙ e)
 
-  pub spent : n ≡ 0 → (t : Sequence) → t ≡ record { registers = at b x y m; place = place; left = n } → leaves t ps ≡ sequence n₀ r₀ ps₀ place₀
+  pub spent : n ≡ 0 → Shown n₀ r₀ ps₀ place₀ b n x y m ps place
   unfolding sequence
   spent e = shows (rw e)
 
   -- in a turn of a loop, whose next move is v
   module _ {n′ : ℕ} (some : n ≡ suc n′) {v : Move} (q : nextMove m (b .mode) (b .scale) ≡ Going v) where
-    pub violates : plain (beamAt b x y) v ≡ false → (t : Sequence) → t ≡ record { registers = at b x y m; place = place; left = n } →
-        leaves t ps ≡ sequence n₀ r₀ ps₀ place₀
+    pub violates : plain (beamAt b x y) v ≡ false → Shown n₀ r₀ ps₀ place₀ b n x y m ps place
     violates p = shows (rw some (stops n′ (at b x y m) ps place v q p))
 
     -- a plain move, with what the code adds up and lights
@@ -155,16 +170,16 @@ module _ {n₀ : ℕ} {r₀ : Registers} {ps₀ : List ℕ} {place₀ : ℕ} {b 
       unfolding litAt
       same-lit = rw (at-x, at-y) (sym el)
 
-      pub fills : length ps < place + length (points lit) → (t : Sequence) → t ≡ record { registers = at b x y m; place = place; left = n } →
-          leaves t ps ≡ sequence n₀ r₀ ps₀ place₀
+      pub fills : length ps < place + length (points lit) → Shown n₀ r₀ ps₀ place₀ b n x y m ps place
       fills f = shows (rw some (full n′ (at b x y m) ps place v q p (rw same-lit f)))
 
-      pub goes : place + length (points lit) ≤ length ps →
-          Far n₀ r₀ ps₀ place₀ b n′ x′ y′ (v .motion) (sets ps place (points lit)) (place + length (points lit))
-      goes f =
+      pub goes : {ps′ : List ℕ} {place′ : ℕ} → Put lit ps place ps′ place′ → Far n₀ r₀ ps₀ place₀ b n′ x′ y′ (v .motion) ps′ place′
+      goes {ps′} {place′} w =
+          let f = put-at lit ps place ps′ place′ (h .room) w in
+          rw (f .1, f .2)
           record {
             size = length-sets ps place (points lit) ∙ h .size;
-            room = rw length-sets f;
+            room = rw length-sets (f .0);
             good = rw (plainly (beamAt b x y) v p, at-x, at-y) at (displaced-good (at b x y m) v (h .good) q);
-            whole = h .whole ∙ rw some (rw (same-lit, at-x, at-y) at (moves-on n′ (at b x y m) ps place v q p (rw same-lit f)));
+            whole = h .whole ∙ rw some (rw (same-lit, at-x, at-y) at (moves-on n′ (at b x y m) ps place v q p (rw same-lit (f .0))));
           }

@@ -40,7 +40,7 @@ made-good b m g h =
     (λ _. arrived-good b (m .motion) _ _ _ _ g (moved-small _ (b .x) _ _ (omega arith) (g .x)) (moved-small _ (b .y) _ _ (omega arith) (g .y)) h)
 
 -- a line escapes with its last beat, and a vector continue only where it ends
-waits : (escape last continues : Bool) → (last && not continues) ≡ false → (escape && (last || continues) && not continues) ≡ false
+pub waits : (escape last continues : Bool) → (last && not continues) ≡ false → (escape && (last || continues) && not continues) ≡ false
 waits false last continues h = refl
 waits true true continues h = h
 waits true false true h = refl
@@ -74,7 +74,7 @@ unfolding movesAsked escapes
 one-escaping byte = pick-case (λ (n : ℕ). 2 ≤ n → eqb (byte / 8 % 4) 0 ≡ false) _ (λ _ h. absurd (omega arith)) (λ e _. e)
 
 -- both fail where no one of the two holds
-neither : (a c : Bool) → (a || c) ≡ false → (a ≡ false) × (c ≡ false)
+pub neither : (a c : Bool) → (a || c) ≡ false → (a ≡ false) × (c ≡ false)
 neither false c h = (refl, h)
 neither true c h = (h, cc)
 

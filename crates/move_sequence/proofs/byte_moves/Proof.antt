@@ -5,8 +5,8 @@ use mathlib.Core.Logic.{⊎-elim}
 use native.Mathlib.Omega.{arith}
 use borrow.Author.Needs.{needs}
 use Rattle.registers.specs.declared.Motion.the-variants.{Bytes}
-use Rattle.move_sequence.proofs.Plain.{spent}
-use Rattle.move_sequence.proofs.Bytes.{Along, none, one, ends, stops, crammed, onwards}
+use Rattle.move_sequence.proofs.Plain.{none, one, spent}
+use Rattle.move_sequence.proofs.Bytes.{Along, ends, stops, crammed, onwards}
 use Rattle.move_sequence.proofs.byte_moves.Statement.{statement}
 use Rattle.move_sequence.proofs.byte_moves.Tie as tie
 

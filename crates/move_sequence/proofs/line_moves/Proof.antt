@@ -5,7 +5,8 @@ use Prim.Native.Nat.{_-_}
 use mathlib.Core.Logic.{⊎-elim}
 use native.Mathlib.Omega.{arith}
 use Rattle.registers.proofs.InRange.{line-bounds}
-use Rattle.move_sequence.proofs.Line.{Along, start, over, edge, crammed, made-dark, made-lit}
+use Rattle.move_sequence.proofs.Plain.{none, one}
+use Rattle.move_sequence.proofs.Line.{Along, start, over, edge, crammed, onwards}
 use Rattle.move_sequence.proofs.line_moves.Statement.{statement}
 use Rattle.move_sequence.proofs.line_moves.Tie as tie
 
@@ -49,7 +50,7 @@ line-moves-spec =
     (λ c. let a = c .before .before .before .before .before .before .before .before .before .before in crammed (a .before .before .before .before .before .loop .inv) (a .before .before .before .before .loop-test .taken) (a .before .before .before .travel .ensures) (a .before .before .travel2 .ensures) (a .before .clear .ensures) (a .clear2 .ensures) (c .before .before .before .before .before .before .before .before .before .if1 .taken) (c .before .before .before .before .before .before .before .before .wrapping-add-u16 .ensures) (c .before .before .before .before .before .before .before .wrapping-add-u162 .ensures) (c .before .before .before .before .before .before .lit-at .ensures) (c .before .before .before .before .value .given .1) (c .before .before .if2 .left) _ (c .stays .ensures))
     (λ c. let a = c .before .before .before .before .before .before .before .before .before .before .loop .inv in record { fits = omega (arith, c .before .before .before .before .before .before .before .before .before .loop-test .taken, a .bounds .short, line-bounds (a .far .good .motion .3) .2) })
     (λ c. omega (arith, c .before .before .before .before .before .before .before .before .before .loop-test .taken))
-    (λ c. let a = c .before .before .before .before .before in ⊎-elim (λ w. made-dark (a .before .before .before .before .before .loop .inv) (a .before .before .before .before .loop-test .taken) (a .before .before .before .travel .ensures) (a .before .before .travel2 .ensures) (a .before .clear .ensures) (a .clear2 .ensures) (c .before .before .before .before .if1 .taken) (c .before .before .before .wrapping-add-u16 .ensures) (c .before .before .wrapping-add-u162 .ensures) (c .before .lit-at .ensures) (w .1 .given .1) (w .2) (w .3)) (λ w. made-lit (a .before .before .before .before .before .loop .inv) (a .before .before .before .before .loop-test .taken) (a .before .before .before .travel .ensures) (a .before .before .travel2 .ensures) (a .before .clear .ensures) (a .clear2 .ensures) (c .before .before .before .before .if1 .taken) (c .before .before .before .wrapping-add-u16 .ensures) (c .before .before .wrapping-add-u162 .ensures) (c .before .lit-at .ensures) (w .1 .given .1) (w .3 .taken) (w .4) (w .5)) (c .match .came))
+    (λ c. let a = c .before .before .before .before .before in onwards (a .before .before .before .before .before .loop .inv) (a .before .before .before .before .loop-test .taken) (a .before .before .before .travel .ensures) (a .before .before .travel2 .ensures) (a .before .clear .ensures) (a .clear2 .ensures) (c .before .before .before .before .if1 .taken) (c .before .before .before .wrapping-add-u16 .ensures) (c .before .before .wrapping-add-u162 .ensures) (c .before .lit-at .ensures) (⊎-elim (λ w. none (w .1 .given .1) (w .2) (w .3)) (λ w. one (w .1 .given .1) (w .3 .taken) (w .4) (w .5)) (c .match .came)))
     (λ c. c .before .before .before .before .before .before .before .loop .inv .begun)
     (λ c. search needs)
     (λ c. let a = c .before .before .before .before .before .before .before .loop .inv in omega (arith, a .begun, a .reached, a .bounds .limited))

@@ -21,7 +21,8 @@ use Rattle.beats.specs.OneTurn.{turn}
 use Rattle.endings.specs.declared.Halt.{Halt}
 use Rattle.endings.specs.declared.Halt.the-variants.{Goes, Ends}
 use Rattle.endings.specs.Endings.{halted}
-use Rattle.machine.specs.Runs.{Run, Go, follow, onward, run, entered, Left, call, numbered as answerNumbered}
+use Rattle.runs.specs.Runs.{Run, Go, follow, onward, run, Left}
+use Rattle.machine.specs.Calls.{entered, call, numbered as answerNumbered}
 
 pub reply-points : (q : Reply) → replyNumbered q .points < 4294967296
 reply-points (Refused number) = omega arith

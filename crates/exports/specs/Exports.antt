@@ -8,9 +8,10 @@ use Rattle.host.specs.declared.Reply.{Reply}
 use Rattle.host.specs.declared.Reply.the-variants.{Refused, Done}
 use Rattle.host.specs.HostOperations.{operated, numbered as replyNumbered}
 use Rattle.loan.specs.declared.Loan.{Loan}
-use Rattle.machine.specs.declared.Answer.{Answer}
-use Rattle.machine.specs.declared.Answer.the-variants.{Refused as RefusedRun, Ended}
-use Rattle.machine.specs.Runs.{Left, call, numbered as answerNumbered}
+use Rattle.runs.specs.declared.Answer.{Answer}
+use Rattle.runs.specs.declared.Answer.the-variants.{Refused as RefusedRun, Ended}
+use Rattle.runs.specs.Runs.{Left}
+use Rattle.machine.specs.Calls.{call, numbered as answerNumbered}
 use Rattle.numbers.specs.Numbers.{registersOf, rowOf}
 
 -- the loan of its four numbers: file low, file high, list low, list high

@@ -7,8 +7,8 @@ ghost use Rattle.numbers.specs.Numbers.{rowOf};
 ghost use Rattle.exports.specs.Exports.{loanOf, rowAfterOperation, rowAfterRun, told, operationLeaves, operates, runLeaves, runs};
 use host::Reply;
 use loan::Loan;
-use machine::Answer;
 use registers::Registers;
+use runs::Answer;
 
 // The loan of its four numbers: file low, file high, list low, list high.
 fn loan_of(loan: [u16; 4]) -> Loan

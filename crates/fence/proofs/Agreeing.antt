@@ -26,7 +26,8 @@ use Rattle.endings.specs.declared.Ending.the-variants.{NotRunning, BudgetSpent,
 use Rattle.endings.specs.declared.Halt.{Halt}
 use Rattle.endings.specs.declared.Halt.the-variants.{Goes, Ends}
 use Rattle.endings.specs.Endings.{stored, rested, restEnding, halted}
-use Rattle.machine.specs.Runs.{Run, ended, made, Go, follow, onward, run, entered}
+use Rattle.runs.specs.Runs.{Run, ended, made, Go, follow, onward, run}
+use Rattle.machine.specs.Calls.{entered}
 use Rattle.fence.specs.Demand3.{Agree, Same}
 
 module _ (l : Loan) (m n : List ℕ) (h : Agree l m n) where

@@ -20,11 +20,12 @@ use Rattle.touches.specs.Touches.{Turn, Fails, Rests, Does}
 use Rattle.moves.specs.DataWords.{points}
 use Rattle.beats.specs.OneTurn.{turn}
 use Rattle.endings.specs.declared.Ending.{Ending}
-use Rattle.machine.specs.declared.Answer.the-variants.{Refused, Ended}
+use Rattle.runs.specs.declared.Answer.the-variants.{Refused, Ended}
 use Rattle.endings.specs.declared.Halt.{Halt}
 use Rattle.endings.specs.declared.Halt.the-variants.{Goes, Ends}
 use Rattle.endings.specs.Endings.{stored, halted}
-use Rattle.machine.specs.Runs.{Run, Go, follow, onward, run, entered, Left, leaves, refusedRun, left, call}
+use Rattle.runs.specs.Runs.{Run, Go, follow, onward, run, Left, leaves, left}
+use Rattle.machine.specs.Calls.{entered, refusedRun, call}
 use Rattle.fence.specs.Demand3.{Agree, Same, fenced, spent, SameCall}
 use Rattle.fence.proofs.Agreeing.{entered-agrees}
 use Rattle.fence.proofs.Keeping.{entered-keeps}

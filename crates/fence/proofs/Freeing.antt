@@ -31,7 +31,8 @@ use Rattle.endings.specs.declared.Ending.the-variants.{NotRunning, InternalStop
 use Rattle.endings.specs.declared.Halt.{Halt}
 use Rattle.endings.specs.declared.Halt.the-variants.{Goes, Ends}
 use Rattle.endings.specs.Endings.{stored, restEnding, halted}
-use Rattle.machine.specs.Runs.{Run, ended, made, Go, follow, onward, run, entered}
+use Rattle.runs.specs.Runs.{Run, ended, made, Go, follow, onward, run}
+use Rattle.machine.specs.Calls.{entered}
 use Rattle.fence.specs.Demand3.{fenced, Outside, cut, AtFence}
 
 -- a turn t under the loan and u with all lent: t was stopped by the loan, or they are the same

@@ -23,7 +23,8 @@ use Rattle.beats.specs.OneTurn.{beat, roomFor, turn}
 use Rattle.endings.specs.declared.Halt.{Halt}
 use Rattle.endings.specs.declared.Halt.the-variants.{Goes, Ends}
 use Rattle.endings.specs.Endings.{stored, halted}
-use Rattle.machine.specs.Runs.{Run, Go, follow, onward, run, entered}
+use Rattle.runs.specs.Runs.{Run, Go, follow, onward, run}
+use Rattle.machine.specs.Calls.{entered}
 
 -- the loan allows what is stored
 abbrev Lent : Loan → Stores → Type 0

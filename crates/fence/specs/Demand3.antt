@@ -1,5 +1,5 @@
 -- What demand 3 says, each sentence with the statement that says it, over demand 2's machine and nothing else: `entered` is the run of an accepted call,
--- `call` the whole call, refused or run (machine's Runs.antt). The proofs look at no instruction. Assumes nothing.
+-- `call` the whole call, refused or run (machine's Calls.antt). The proofs look at no instruction. Assumes nothing.
 use Prim.Native.Nat.{ℕ, _-_}
 use mathlib.Core.Path.{_≡_}
 use mathlib.Core.Bool.{Bool, true, false}
@@ -15,8 +15,9 @@ use Rattle.touches.specs.Touches.{Fails}
 use Rattle.beats.specs.OneTurn.{turn}
 use Rattle.endings.specs.declared.Ending.{Ending}
 use Rattle.endings.specs.declared.Ending.the-variants.{NotRunning, BudgetSpent, InternalStop, ExternalStop, EdgeStop, UnusableMode, Failed}
-use Rattle.machine.specs.declared.Answer.the-variants.{Ended}
-use Rattle.machine.specs.Runs.{Run, entered, Left, call, numbered}
+use Rattle.runs.specs.declared.Answer.the-variants.{Ended}
+use Rattle.runs.specs.Runs.{Run, Left}
+use Rattle.machine.specs.Calls.{entered, call, numbered}
 
 -- "two memories that agree on every word lent"
 abbrev pub Agree : Loan → List ℕ → List ℕ → Type 0

@@ -9,9 +9,10 @@ use lib.ListN.{length, length-append}
 use Rattle.words.specs.Words.{pick}
 use Rattle.registers.specs.declared.Registers.{Registers}
 use Rattle.loan.specs.Loan.{all}
-use Rattle.machine.specs.declared.Ran.{Ran}
+use Rattle.runs.specs.declared.Ran.{Ran}
 use Rattle.machine.specs.declared.Numbers.{Numbers}
-use Rattle.machine.specs.Runs.{leaves, call, numbered}
+use Rattle.runs.specs.Runs.{leaves}
+use Rattle.machine.specs.Calls.{call, numbered}
 use Rattle.lines.specs.Lines.{Read, read, start}
 use Rattle.text.specs.Text.{Filled, filled, puts, whole}
 use Rattle.text.proofs.Puts.{puts-whole}

@@ -10,7 +10,8 @@ use Rattle.registers.specs.declared.Registers.{Registers}
 use Rattle.registers.specs.Registers.{fresh}
 use Rattle.host.specs.HostOperations.{operated}
 use Rattle.loan.specs.Loan.{all}
-use Rattle.machine.specs.Runs.{Left, call, numbered}
+use Rattle.runs.specs.Runs.{Left}
+use Rattle.machine.specs.Calls.{call, numbered}
 use Rattle.lines.specs.Lines.{Read, read, start}
 use Rattle.text.specs.Text.{decimal, number}
 use Rattle.points.specs.Points.{pointX, pointY, pointIntensity, pointBlink}

@@ -19,7 +19,8 @@ use Rattle.beats.proofs.Fine.{FineTurn, turn-fine}
 use Rattle.endings.specs.declared.Halt.{Halt}
 use Rattle.endings.specs.declared.Halt.the-variants.{Goes, Ends}
 use Rattle.endings.specs.Endings.{stored, halted}
-use Rattle.machine.specs.Runs.{Run, Go, follow, onward, run, entered, Left, call, KeepsInRange}
+use Rattle.runs.specs.Runs.{Run, Go, follow, onward, run, Left}
+use Rattle.machine.specs.Calls.{entered, call, KeepsInRange}
 use Rattle.endings.proofs.Kept.{rested-good}
 
 module _ (l : Loan) (f : Fair l) where

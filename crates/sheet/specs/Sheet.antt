@@ -12,7 +12,8 @@ use Rattle.registers.specs.Registers.{freshBase}
 use Rattle.registers.specs.With.{withX, withY, withConditions, withAddress, withPointer, withScale, withIntensity, withMode, withDatastate, withRunning, withPen}
 use Rattle.loan.specs.Loan.{all}
 use Rattle.endings.specs.Endings.{endingNumber}
-use Rattle.machine.specs.Runs.{Run, entered}
+use Rattle.runs.specs.Runs.{Run}
+use Rattle.machine.specs.Calls.{entered}
 
 -- WHAT A ROW CAN ASK
 

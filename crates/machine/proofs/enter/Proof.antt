@@ -6,7 +6,8 @@ use lib.ListN.{length}
 use denote.Ref.{now}
 use Rattle.words.specs.Words.{pick}
 use Rattle.endings.specs.declared.Ending.the-variants.{NotRunning}
-use Rattle.machine.specs.Runs.{ended, run, entered, left}
+use Rattle.runs.specs.Runs.{ended, run, left}
+use Rattle.machine.specs.Calls.{entered}
 use Rattle.machine.proofs.enter.Statement.{statement}
 use Rattle.machine.proofs.enter.Tie as tie
 

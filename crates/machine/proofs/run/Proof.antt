@@ -5,7 +5,7 @@ use borrow.Author.Tests.{eq-eqb, ne-eqb, le-leb, lt-leb}
 use Rattle.words.specs.Words.{pick}
 use Rattle.registers.proofs.InRange.{good}
 use Rattle.loan.proofs.Touches.{fair}
-use Rattle.machine.specs.Runs.{call}
+use Rattle.machine.specs.Calls.{call}
 use Rattle.machine.proofs.run.Statement.{statement}
 use Rattle.machine.proofs.run.Tie as tie
 

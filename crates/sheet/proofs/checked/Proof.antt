@@ -13,7 +13,8 @@ use Rattle.touches.specs.Touches.{got, storing, walk}
 use Rattle.control_beats.specs.ControlWords.{pushAct, jumpBeat, controlBeat}
 use Rattle.beats.specs.OneTurn.{longBeat, dataBeat, commandBeat, unusable, idleBeat, roomFor, turn}
 use Rattle.endings.specs.Endings.{halted, endingNumber}
-use Rattle.machine.specs.Runs.{run, entered}
+use Rattle.runs.specs.Runs.{run}
+use Rattle.machine.specs.Calls.{entered}
 use Rattle.sheet.specs.Sheet.{sheet, agrees, wrong, sameList, offsetsFrom, loaded}
 use Rattle.sheet.proofs.checked.Statement.{statement}
 use Rattle.sheet.proofs.checked.Tie as tie

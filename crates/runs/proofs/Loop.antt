@@ -24,11 +24,11 @@ use Rattle.beats.proofs.Fine.{Fine, turn-fine}
 use Rattle.endings.specs.declared.Ending.{Ending}
 use Rattle.endings.specs.declared.Ending.the-variants.{BudgetSpent, Failed}
 use Rattle.endings.specs.declared.Halt.the-variants.{Goes, Ends}
-use Rattle.machine.specs.declared.Answer.the-variants.{Ended}
-use Rattle.machine.specs.declared.Ran.{Ran}
+use Rattle.runs.specs.declared.Answer.the-variants.{Ended}
+use Rattle.runs.specs.declared.Ran.{Ran}
 use Rattle.endings.specs.Endings.{stored, halted, rested, restEnding}
 use Rattle.endings.proofs.Kept.{rested-good, length-stored}
-use Rattle.machine.specs.Runs.{Run, ended, made, follow, onward, run, leaves, left}
+use Rattle.runs.specs.Runs.{Run, ended, made, follow, onward, run, leaves, left}
 
 -- a run after points and beats that were made before it
 abbrev pub after : List ℕ → ℕ → Run → Run

@@ -1,4 +1,4 @@
--- `machine::make_ahead` meets its promise: the motion picks what is made, and each way is its callee's. Assumes nothing.
+-- `runs::make_ahead` meets its promise: the motion picks what is made, and each way is its callee's. Assumes nothing.
 use Prim.Native.Nat.{_-_}
 use mathlib.Core.Path.{sym, ap, _∙_, subst}
 use native.Mathlib.Omega.{arith}
@@ -9,10 +9,10 @@ use Rattle.registers.specs.declared.Motion.the-variants.{Line, Bytes}
 use Rattle.registers.specs.Registers.{Good}
 use Rattle.move_sequence.specs.PlainMoves.{Left as Moves}
 use Rattle.control_sequence.specs.ControlWords.{Left as Words}
-use Rattle.machine.specs.Ahead.{afterWords, afterMoves, aheadBy}
-use Rattle.machine.proofs.MadeAhead.{moves-left}
-use Rattle.machine.proofs.make_ahead.Statement.{statement}
-use Rattle.machine.proofs.make_ahead.Tie as tie
+use Rattle.runs.specs.Ahead.{afterWords, afterMoves, aheadBy}
+use Rattle.runs.proofs.MadeAhead.{moves-left}
+use Rattle.runs.proofs.make_ahead.Statement.{statement}
+use Rattle.runs.proofs.make_ahead.Tie as tie
 
 pub make-ahead-spec : {M : Type 1} → statement M
 make-ahead-spec =

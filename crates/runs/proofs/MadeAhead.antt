@@ -37,10 +37,10 @@ use Rattle.endings.specs.declared.Halt.the-variants.{Goes, Ends}
 use Rattle.endings.specs.Endings.{stored, halted}
 use Rattle.control_sequence.specs.ControlWords.{nextWord, Left as Words, follow, onTurn, obeyed}
 use Rattle.control_sequence.proofs.Bare.{Bare, next-bare, turn-control, reached}
-use Rattle.machine.specs.declared.Ahead.{Ahead}
-use Rattle.machine.specs.Ahead.{Left, leaves, afterMoves, aheadBy, ahead}
-use Rattle.machine.specs.Runs.{ended, run}
-use Rattle.machine.proofs.Loop.{Far, length-drawn, fails, goes, stops}
+use Rattle.runs.specs.declared.Ahead.{Ahead}
+use Rattle.runs.specs.Ahead.{Left, leaves, afterMoves, aheadBy, ahead}
+use Rattle.runs.specs.Runs.{ended, run}
+use Rattle.runs.proofs.Loop.{Far, length-drawn, fails, goes, stops}
 
 -- a move for whose point there is room is the turn's beat
 moves-turn : (l : Loan) (m : List ℕ) (room : ℕ) (r : Registers) (v : Move) → nextMove (r .motion) (r .base .mode) (r .base .scale) ≡ Going v →

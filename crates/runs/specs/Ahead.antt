@@ -10,7 +10,7 @@ use Rattle.loan.specs.declared.Loan.{Loan}
 use Rattle.endings.specs.declared.Halt.the-variants.{Goes}
 use Rattle.move_sequence.specs.PlainMoves.{sequence, Left as Moves}
 use Rattle.control_sequence.specs.ControlWords.{obeyed, Left as Words}
-use Rattle.machine.specs.declared.Ahead.{Ahead}
+use Rattle.runs.specs.declared.Ahead.{Ahead}
 
 -- what is left, with the memory and the point list
 pub record Left : Type 0 where

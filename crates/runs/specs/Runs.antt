@@ -1,29 +1,21 @@
--- Section 'Refused calls and run endings' of 01, and the run of 'One turn of a run': a run by its budget, its endings, and the whole call with its
--- refusals. Memory, points and beats come out of the turns that the definition takes. Assumes nothing.
+-- The run of 01's section 'One turn of a run': by its budget, its endings, and what a call leaves of it. Memory, points and beats come out of the turns that
+-- the definition takes. Assumes nothing.
 use Prim.Native.Nat.{ℕ, zero, suc, _-_}
-use mathlib.Core.Path.{_≡_}
-use mathlib.Core.Bool.{true}
 use mathlib.Core.List.{List, [], _++_}
-use lib.Dec.{eqb, leb}
 use lib.ListN.{length, drop}
-use Rattle.words.specs.Words.{pick}
 use Rattle.registers.specs.declared.Registers.{Registers}
-use Rattle.registers.specs.Registers.{inRange}
 use Rattle.loan.specs.declared.Loan.{Loan}
-use Rattle.loan.specs.Loan.{fairLoan}
 use Rattle.touches.specs.declared.Act.{Act}
 use Rattle.touches.specs.Touches.{Turn, Fails, Rests, Does}
 use Rattle.moves.specs.DataWords.{points}
 use Rattle.beats.specs.OneTurn.{turn}
 use Rattle.endings.specs.declared.Ending.{Ending}
-use Rattle.endings.specs.declared.Ending.the-variants.{NotRunning, BudgetSpent, Failed}
+use Rattle.endings.specs.declared.Ending.the-variants.{BudgetSpent, Failed}
 use Rattle.endings.specs.declared.Halt.{Halt}
 use Rattle.endings.specs.declared.Halt.the-variants.{Goes, Ends}
-use Rattle.endings.specs.Endings.{stored, rested, restEnding, halted, endingNumber}
-use Rattle.machine.specs.declared.Answer.{Answer}
-use Rattle.machine.specs.declared.Answer.the-variants.{Refused, Ended}
-use Rattle.machine.specs.declared.Ran.{Ran}
-use Rattle.machine.specs.declared.Numbers.{Numbers}
+use Rattle.endings.specs.Endings.{stored, rested, restEnding, halted}
+use Rattle.runs.specs.declared.Answer.the-variants.{Ended}
+use Rattle.runs.specs.declared.Ran.{Ran}
 
 -- THE RUN
 
@@ -62,11 +54,7 @@ unfoldable pub run : ℕ → Loan → ℕ → Registers → List ℕ → Run
 run zero l room r m = ended r m BudgetSpent
 run (suc k) l room r m = onward (run k l) room r m (turn l room r m)
 
--- if not running at entry: 10
-unfoldable pub entered : ℕ → Loan → ℕ → Registers → List ℕ → Run
-entered k l room r m = pick (r .base .running) (run k l room r m) (ended r m NotRunning)
-
--- THE CALL
+-- WHAT A CALL LEAVES
 
 -- what a call leaves
 pub record Left : Type 0 where
@@ -77,10 +65,6 @@ pub record Left : Type 0 where
 abbrev pub leaves : Ran → List ℕ → List ℕ → Left
 leaves t m ps = record { ran = t; memory = m; points = ps }
 
--- a refusal returns the registers as given and stores nothing
-abbrev pub refusedRun : Registers → ℕ → Ran
-refusedRun r number = record { registers = r; answer = Refused number }
-
 -- the first entries of the point list are filled in order from place 0; the rest stay
 abbrev pub left : Run → List ℕ → Left
 left f ps =
@@ -89,25 +73,3 @@ left f ps =
       memory = f .memory;
       points = f .lit ++ drop (length (f .lit)) ps;
     }
-
--- runs test 1, 2, 3, 4; the first that applies is given, and none otherwise
-unfoldable pub call : ℕ → Loan → Registers → List ℕ → List ℕ → Left
-call budget l r m ps =
-    pick (eqb (length m) 32768)
-    (pick (leb budget 65535)
-    (pick (fairLoan l)
-    (pick (inRange r) (left (entered budget l (length ps) r m) ps) (leaves (refusedRun r 4) m ps))
-    (leaves (refusedRun r 3) m ps))
-    (leaves (refusedRun r 2) m ps))
-    (leaves (refusedRun r 1) m ps)
-
--- no accepted call leaves registers that 4 refuses (01, Registers)
-abbrev pub KeepsInRange : Type 0
-KeepsInRange =
-    (budget : ℕ) (l : Loan) (r : Registers) (m ps : List ℕ) → inRange r ≡ true → inRange (call budget l r m ps .ran .registers) ≡ true
-
--- THIS PAPER'S NUMBERS for each answer: ending, word, beats and points. A run's word is 0
-
-abbrev pub numbered : Answer → Numbers
-numbered (Refused number) = record { ending = number; word = 0; beats = 0; points = 0 }
-numbered (Ended ending beats points) = record { ending = endingNumber ending; word = 0; beats = beats; points = points }

@@ -1,9 +1,9 @@
--- `machine::put` meets its promise: one entry is set at the place, or none. Assumes nothing.
+-- `runs::put` meets its promise: one entry is set at the place, or none. Assumes nothing.
 use borrow.Author.Needs.{needs}
 use mathlib.Core.Path.{refl}
 use native.Mathlib.Omega.{arith}
-use Rattle.machine.proofs.put.Statement.{statement}
-use Rattle.machine.proofs.put.Tie as tie
+use Rattle.runs.proofs.put.Statement.{statement}
+use Rattle.runs.proofs.put.Tie as tie
 
 pub put-spec : {M : Type 1} → statement M
 put-spec =

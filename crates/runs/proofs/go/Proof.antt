@@ -1,4 +1,4 @@
--- `machine::go` meets its promise: at the loop's head what was done so far, followed by the definition's run from here, is the definition's run from the
+-- `runs::go` meets its promise: at the loop's head what was done so far, followed by the definition's run from here, is the definition's run from the
 -- start (Loop.antt); what is made ahead of a turn keeps that (MadeAhead.antt), and each way through the turn is one of its laws. The measure is what is left
 -- of the budget. Assumes nothing.
 use Prim.Native.Nat.{_-_}
@@ -9,12 +9,12 @@ use borrow.Author.Needs.{needs}
 use denote.Ref.{now}
 use Rattle.touches.specs.Touches.{said}
 use Rattle.beats.specs.OneTurn.{turn}
-use Rattle.machine.specs.Ahead.{leaves}
-use Rattle.machine.specs.Runs.{run}
-use Rattle.machine.proofs.Loop.{Far, good-line-in, start, length-drawn, shows, spends, fails, rests, fine, goes, stops}
-use Rattle.machine.proofs.MadeAhead.{Made, made, goes-on, ends-at}
-use Rattle.machine.proofs.go.Statement.{statement}
-use Rattle.machine.proofs.go.Tie as tie
+use Rattle.runs.specs.Ahead.{leaves}
+use Rattle.runs.specs.Runs.{run}
+use Rattle.runs.proofs.Loop.{Far, good-line-in, start, length-drawn, shows, spends, fails, rests, fine, goes, stops}
+use Rattle.runs.proofs.MadeAhead.{Made, made, goes-on, ends-at}
+use Rattle.runs.proofs.go.Statement.{statement}
+use Rattle.runs.proofs.go.Tie as tie
 
 abbrev Inv-loop : tie.InvT-loop
 Inv-loop l memory₀ points₀ budget current₀ beats₀ place₀ memory points current beats place =

@@ -12,7 +12,7 @@ use Rattle.words.proofs.Laws.{pick-case}
 use Rattle.registers.specs.declared.Base.{Base}
 use Rattle.registers.specs.declared.Registers.{Registers}
 use Rattle.registers.specs.Registers.{GoodBase, Good}
-use Rattle.moves.specs.declared.Moved.{Moved}
+use Rattle.beam.specs.declared.Moved.{Moved}
 use Rattle.moves.specs.declared.Moving.{Moving}
 use Rattle.moves.specs.declared.Moving.the-variants.{Still, Going}
 use Rattle.moves.specs.DataWords.{nextMove}
@@ -24,7 +24,7 @@ use Rattle.touches.specs.declared.Act.{Act}
 use Rattle.touches.specs.Touches.{Turn, Fails, Rests, Does, walk}
 use Rattle.touches.proofs.Fine.{GoodBeat, Inside, FineWalk, walk-fine}
 use Rattle.control_beats.proofs.Kept.{control-good}
-use Rattle.moves.specs.DataWords.{points}
+use Rattle.beam.specs.DataWords.{points}
 use Rattle.beats.specs.OneTurn.{longBeat, dataBeat, unheld, commandBeat, unusable, idleBeat, beatBy, beat, roomFor, turn}
 
 -- THE DISPATCH

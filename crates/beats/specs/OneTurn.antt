@@ -14,7 +14,8 @@ use Rattle.registers.specs.declared.Motion.the-variants.{Nothing}
 use Rattle.registers.specs.With.{withPen, withHold}
 use Rattle.moves.specs.declared.Moving.{Moving}
 use Rattle.moves.specs.declared.Moving.the-variants.{Still, Going}
-use Rattle.moves.specs.DataWords.{points, nextMove, displaced}
+use Rattle.beam.specs.DataWords.{points}
+use Rattle.moves.specs.DataWords.{nextMove, displaced}
 use Rattle.drawing.specs.DataWords.{point, increment, vector, shortVector, graphplot}
 use Rattle.loan.specs.declared.Loan.{Loan}
 use Rattle.touches.specs.declared.Why.the-variants.{Full}

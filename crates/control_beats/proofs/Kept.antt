@@ -7,7 +7,8 @@ use Rattle.words.proofs.Laws.{pick-case}
 use Rattle.registers.specs.declared.Base.{Base}
 use Rattle.registers.specs.Registers.{GoodBase, Good}
 use Rattle.control.proofs.Kept.{parameter-good, mode-good, jump-good, push-good, pop-good}
-use Rattle.skips.proofs.Kept.{skipping-good, button-skip-good, compare-good, flag-skip-good, count-good, sync-good}
+use Rattle.skips.proofs.Kept.{skipping-good, flag-skip-good, count-good, sync-good}
+use Rattle.button_skips.proofs.Kept.{button-skip-good, compare-good}
 use Rattle.touches.specs.declared.Act.{Act}
 use Rattle.touches.proofs.Fine.{GoodBeat}
 use Rattle.control_beats.specs.ControlWords.{pushAct, jumpBeat, popBeat, miscellaneous, controlBeat}

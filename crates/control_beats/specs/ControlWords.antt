@@ -8,11 +8,12 @@ use Rattle.addresses.specs.Addresses.{addressAfter, pointerAfter, pointerBefore
 use Rattle.registers.specs.declared.Base.{Base}
 use Rattle.registers.specs.declared.Motion.the-variants.{Nothing}
 use Rattle.control.specs.ControlWords.{parameter, mode, jump, push, pushedFirst, pushedSecond, pop}
-use Rattle.skips.specs.ControlWords.{buttonSkip, compare, flagSkip, count, sync, skipping}
-use Rattle.moves.specs.declared.Lit.the-variants.{Dark}
-use Rattle.moves.specs.declared.Stop.{Stop}
-use Rattle.moves.specs.declared.Stop.the-variants.{On, Internal}
-use Rattle.moves.specs.declared.Moved.{Moved}
+use Rattle.skips.specs.ControlWords.{flagSkip, count, sync, skipping}
+use Rattle.button_skips.specs.ControlWords.{buttonSkip, compare}
+use Rattle.beam.specs.declared.Lit.the-variants.{Dark}
+use Rattle.beam.specs.declared.Stop.{Stop}
+use Rattle.beam.specs.declared.Stop.the-variants.{On, Internal}
+use Rattle.beam.specs.declared.Moved.{Moved}
 use Rattle.touches.specs.declared.Act.{Act}
 use Rattle.touches.specs.declared.Stores.the-variants.{Two}
 use Rattle.touches.specs.Touches.{Beat, fetch, act, whole}

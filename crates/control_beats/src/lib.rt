@@ -2,14 +2,14 @@
 ghost use mathlib.Core.Path.{_≡_};
 ghost use lib.ListN.{length};
 ghost use Rattle.loan.specs.Loan.{Fair};
-ghost use Rattle.moves.specs.declared.Stop.the-variants.{On, Internal};
+ghost use Rattle.beam.specs.declared.Stop.the-variants.{On, Internal};
 ghost use Rattle.words.specs.Words.{pick};
 ghost use Rattle.touches.specs.Touches.{walk, said};
 ghost use Rattle.control_beats.specs.ControlWords.{done, pushAct, jumpBeat, popBeat, miscellaneous, controlBeat};
+use beam::Lit;
+use beam::Moved;
+use beam::Stop;
 use loan::Loan;
-use moves::Lit;
-use moves::Moved;
-use moves::Stop;
 use registers::Base;
 use registers::Motion;
 use registers::Registers;
@@ -102,8 +102,8 @@ fn miscellaneous(b: Base, word: u16) -> Base
 {
     let kind = words::bits(word, 3, 5);
     match kind {
-        0 => skips::compare(b, word, false),
-        1 => skips::compare(b, word, true),
+        0 => button_skips::compare(b, word, false),
+        1 => button_skips::compare(b, word, true),
         2 => skips::flag_skip(b, word),
         3 => skips::count(b, word),
         _ => skips::passed(b),
@@ -120,8 +120,8 @@ pub fn control_beat(b: Base, word: u16, l: Loan, memory: &[u16]) -> Turn
         1 => Turn::Moves(done(control::mode(b, word), internal_if(words::bit(word, 3)))),
         2 => jump_beat(b, word, l, memory),
         3 => pop_beat(b, word, l, memory),
-        4 => Turn::Moves(done(skips::button_skip(b, word, false), Stop::On)),
-        5 => Turn::Moves(done(skips::button_skip(b, word, true), Stop::On)),
+        4 => Turn::Moves(done(button_skips::button_skip(b, word, false), Stop::On)),
+        5 => Turn::Moves(done(button_skips::button_skip(b, word, true), Stop::On)),
         6 => Turn::Moves(done(miscellaneous(b, word), Stop::On)),
         _ => Turn::Moves(done(skips::sync(b, word), Stop::On)),
     }

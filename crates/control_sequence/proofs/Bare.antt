@@ -11,7 +11,7 @@ use Rattle.words.specs.Words.{bit, bits, pick}
 use Rattle.words.proofs.Laws.{pick-case}
 use Rattle.registers.specs.declared.Base.{Base}
 use Rattle.registers.specs.declared.Motion.the-variants.{Nothing}
-use Rattle.moves.specs.declared.Lit.the-variants.{Dark}
+use Rattle.beam.specs.declared.Lit.the-variants.{Dark}
 use Rattle.moves.specs.DataWords.{nextMove}
 use Rattle.loan.specs.declared.Loan.{Loan}
 use Rattle.loan.specs.Loan.{mayStore}

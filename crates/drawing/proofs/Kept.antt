@@ -15,8 +15,9 @@ use Rattle.registers.specs.declared.Motion.the-variants.{Nothing}
 use Rattle.registers.specs.Registers.{larger, GoodBase, Good}
 use Rattle.registers.specs.With.{withAddress}
 use Rattle.registers.proofs.Setting.{address-set}
-use Rattle.moves.specs.declared.Moved.{Moved}
-use Rattle.moves.proofs.Kept.{arrived-good, some-asked}
+use Rattle.beam.specs.declared.Moved.{Moved}
+use Rattle.beam.proofs.Kept.{arrived-good}
+use Rattle.moves.proofs.Kept.{some-asked}
 use Rattle.drawing.specs.DataWords.{placed, point, increment, vectorLine, shortLine, begun, vector, shortVector, graphplot}
 
 placed-small : (w old : ℕ) (inhibit : Bool) → old < 8192 → placed w old inhibit .value < 8192

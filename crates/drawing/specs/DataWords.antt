@@ -14,10 +14,10 @@ use Rattle.registers.specs.declared.Motion.{Motion}
 use Rattle.registers.specs.declared.Motion.the-variants.{Nothing, Line, Bytes}
 use Rattle.registers.specs.Registers.{larger, byteAt, movesAsked}
 use Rattle.registers.specs.With.{withAddress, withDatastate}
-use Rattle.moves.specs.declared.Lit.the-variants.{Dark}
-use Rattle.moves.specs.declared.Stop.the-variants.{On}
-use Rattle.moves.specs.declared.Moved.{Moved}
-use Rattle.moves.specs.DataWords.{arrived}
+use Rattle.beam.specs.declared.Lit.the-variants.{Dark}
+use Rattle.beam.specs.declared.Stop.the-variants.{On}
+use Rattle.beam.specs.declared.Moved.{Moved}
+use Rattle.beam.specs.DataWords.{arrived}
 
 abbrev pub stateSet : Base → DisplayAddress → Bool → Base
 stateSet b a d = withDatastate (withAddress b a) d

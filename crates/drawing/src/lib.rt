@@ -2,9 +2,9 @@
 ghost use mathlib.Core.Path.{_≡_};
 ghost use Rattle.drawing.specs.DataWords.{stateSet, unlit, placed, point, increment, vectorLine, shortLine, begun, vector, shortVector, graphplot};
 use addresses::DisplayAddress;
-use moves::Lit;
-use moves::Moved;
-use moves::Stop;
+use beam::Lit;
+use beam::Moved;
+use beam::Stop;
 use paper::Reached;
 use registers::Base;
 use registers::ByteMotion;
@@ -52,7 +52,7 @@ pub fn point(b: Base, word: u16, second: u16) -> Moved
     let y = placed(word, b.y, words::bit(word, 1));
     let x = placed(second, b.x, words::bit(second, 1));
     let next = state_set(b, b.address.after(2), b.datastate);
-    moves::arrived(
+    beam::arrived(
         next,
         Motion::Nothing,
         x,
@@ -151,7 +151,7 @@ pub fn graphplot(b: Base, word: u16) -> Moved
     let escape = words::bit(word, 0);
     if words::bit(word, 1) {
         let y = paper::moved(words::bits(b.conditions, 4, 5), b.y, distance, false);
-        moves::arrived(
+        beam::arrived(
             next,
             Motion::Nothing,
             placed(word, b.x, false),
@@ -161,7 +161,7 @@ pub fn graphplot(b: Base, word: u16) -> Moved
         )
     } else {
         let x = paper::moved(words::bits(b.conditions, 6, 7), b.x, distance, false);
-        moves::arrived(
+        beam::arrived(
             next,
             Motion::Nothing,
             x,

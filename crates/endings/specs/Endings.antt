@@ -6,8 +6,8 @@ use mathlib.Core.List.{List}
 use lib.ListN.{set}
 use Rattle.registers.specs.declared.Registers.{Registers}
 use Rattle.registers.specs.With.{withRunning, withRequest, withExternal}
-use Rattle.moves.specs.declared.Stop.{Stop}
-use Rattle.moves.specs.declared.Stop.the-variants.{On, Internal, Edge}
+use Rattle.beam.specs.declared.Stop.{Stop}
+use Rattle.beam.specs.declared.Stop.the-variants.{On, Internal, Edge}
 use Rattle.touches.specs.declared.Stores.{Stores}
 use Rattle.touches.specs.declared.Stores.the-variants.{Nowhere, Two}
 use Rattle.touches.specs.declared.Resting.{Resting}

@@ -3,7 +3,7 @@ ghost use mathlib.Core.Path.{_≡_};
 ghost use lib.ListN.{length};
 ghost use Rattle.touches.proofs.Fine.{Inside};
 ghost use Rattle.endings.specs.Endings.{stored, rested, restEnding, halted, whyNumber, endingNumber};
-use moves::Stop;
+use beam::Stop;
 use registers::Base;
 use registers::Registers;
 use touches::Resting;

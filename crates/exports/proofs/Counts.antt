@@ -11,12 +11,12 @@ use Rattle.registers.specs.Registers.{inRange}
 use Rattle.host.specs.declared.Reply.{Reply}
 use Rattle.host.specs.declared.Reply.the-variants.{Refused, Done}
 use Rattle.host.specs.HostOperations.{numbered as replyNumbered}
-use Rattle.moves.specs.declared.Lit.{Lit}
-use Rattle.moves.specs.declared.Lit.the-variants.{Dark, Point}
+use Rattle.beam.specs.declared.Lit.{Lit}
+use Rattle.beam.specs.declared.Lit.the-variants.{Dark, Point}
 use Rattle.loan.specs.declared.Loan.{Loan}
 use Rattle.loan.specs.Loan.{fairLoan}
 use Rattle.touches.specs.Touches.{Turn, Fails, Rests, Does}
-use Rattle.moves.specs.DataWords.{points}
+use Rattle.beam.specs.DataWords.{points}
 use Rattle.beats.specs.OneTurn.{turn}
 use Rattle.endings.specs.declared.Halt.{Halt}
 use Rattle.endings.specs.declared.Halt.the-variants.{Goes, Ends}

@@ -17,7 +17,7 @@ use Rattle.loan.specs.declared.Loan.{Loan}
 use Rattle.loan.specs.Loan.{mayStore, fairLoan, all}
 use Rattle.loan.proofs.Touches.{fair}
 use Rattle.touches.specs.Touches.{Turn, Fails, Rests, Does}
-use Rattle.moves.specs.DataWords.{points}
+use Rattle.beam.specs.DataWords.{points}
 use Rattle.beats.specs.OneTurn.{turn}
 use Rattle.endings.specs.declared.Ending.{Ending}
 use Rattle.runs.specs.declared.Answer.the-variants.{Refused, Ended}

@@ -13,8 +13,8 @@ use Rattle.registers.specs.declared.Registers.{Registers}
 use Rattle.loan.specs.declared.Loan.{Loan}
 use Rattle.loan.specs.Loan.{mayFetch, mayStore, Fair, all}
 use Rattle.loan.proofs.Touches.{may-fetch-all, may-store-all}
-use Rattle.moves.specs.declared.Stop.{Stop}
-use Rattle.moves.specs.declared.Stop.the-variants.{On, Internal, Edge}
+use Rattle.beam.specs.declared.Stop.{Stop}
+use Rattle.beam.specs.declared.Stop.the-variants.{On, Internal, Edge}
 use Rattle.touches.specs.declared.Act.{Act}
 use Rattle.touches.specs.declared.Got.the-variants.{Word, Not}
 use Rattle.touches.specs.declared.Resting.{Resting}
@@ -24,7 +24,7 @@ use Rattle.touches.specs.declared.Stores.the-variants.{Nowhere, Two}
 use Rattle.touches.specs.declared.Why.{Why}
 use Rattle.touches.specs.declared.Why.the-variants.{Fetch, Store, Wide, Full}
 use Rattle.touches.specs.Touches.{Beat, fetch, act, rest, Turn, Fails, Rests, Does, got, onGot, storing, walk}
-use Rattle.moves.specs.DataWords.{points}
+use Rattle.beam.specs.DataWords.{points}
 use Rattle.beats.specs.OneTurn.{beat, roomFor, turn}
 use Rattle.endings.specs.declared.Ending.{Ending}
 use Rattle.endings.specs.declared.Ending.the-variants.{NotRunning, InternalStop, EdgeStop, Failed}

@@ -18,7 +18,7 @@ use Rattle.touches.specs.declared.Got.the-variants.{Word, Not}
 use Rattle.touches.specs.declared.Stores.{Stores}
 use Rattle.touches.specs.declared.Stores.the-variants.{Nowhere, Two}
 use Rattle.touches.specs.Touches.{Beat, fetch, act, rest, Turn, Fails, Rests, Does, got, onGot, storing, walk}
-use Rattle.moves.specs.DataWords.{points}
+use Rattle.beam.specs.DataWords.{points}
 use Rattle.beats.specs.OneTurn.{beat, roomFor, turn}
 use Rattle.endings.specs.declared.Halt.{Halt}
 use Rattle.endings.specs.declared.Halt.the-variants.{Goes, Ends}

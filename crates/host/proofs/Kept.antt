@@ -18,7 +18,8 @@ use Rattle.registers.specs.declared.Registers.{Registers}
 use Rattle.registers.specs.Registers.{inRange, Good}
 use Rattle.registers.proofs.InRange.{good, formed}
 use Rattle.registers.proofs.Setting.{address-set, pointer-set, mode-set, buttons-set, conditions-set}
-use Rattle.operations.specs.HostOperations.{started, pointed, conditioned, resume, cleared, pressed, groupCleared}
+use Rattle.operations.specs.HostOperations.{started, pointed, conditioned, resume, cleared}
+use Rattle.inputs.specs.HostOperations.{pressed, groupCleared}
 use Rattle.host.specs.declared.Operated.{Operated}
 use Rattle.host.specs.HostOperations.{known, limit, withMotion, registersAfter, done, operated, KeepsInRange}
 

@@ -1,5 +1,5 @@
 -- Section 'Host operations' of 01, the whole call: which operations and operands there are, what is answered, and refusals 4, 5, 6 in that order.
--- What each operation sets is in operations' file of this name. Assumes nothing.
+-- What each operation sets is in the files of this name of operations and inputs. Assumes nothing.
 use Prim.Native.Nat.{ℕ, _%_}
 use mathlib.Core.Bool.{Bool, true, false, _&&_, _||_}
 use mathlib.Core.Path.{_≡_}
@@ -12,7 +12,8 @@ use Rattle.registers.specs.declared.Motion.the-variants.{Nothing}
 use Rattle.registers.specs.declared.Registers.{Registers}
 use Rattle.registers.specs.Registers.{inRange}
 use Rattle.status.specs.Status.{statusOne, statusTwo}
-use Rattle.operations.specs.HostOperations.{started, pointed, conditioned, resume, cleared, requested, penLit, pressed, groupCleared, interrupted, idled, hitsRead}
+use Rattle.operations.specs.HostOperations.{started, pointed, conditioned, resume, cleared, requested}
+use Rattle.inputs.specs.HostOperations.{penLit, pressed, groupCleared, interrupted, idled, hitsRead}
 use Rattle.host.specs.declared.Operated.{Operated}
 use Rattle.host.specs.declared.Numbers.{Numbers}
 use Rattle.host.specs.declared.Reply.{Reply}

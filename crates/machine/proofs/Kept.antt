@@ -13,7 +13,7 @@ use Rattle.loan.specs.declared.Loan.{Loan}
 use Rattle.loan.specs.Loan.{fairLoan, Fair}
 use Rattle.loan.proofs.Touches.{fair}
 use Rattle.touches.specs.Touches.{Turn, Fails, Rests, Does}
-use Rattle.moves.specs.DataWords.{points}
+use Rattle.beam.specs.DataWords.{points}
 use Rattle.beats.specs.OneTurn.{turn}
 use Rattle.beats.proofs.Fine.{FineTurn, turn-fine}
 use Rattle.endings.specs.declared.Halt.{Halt}

@@ -10,7 +10,7 @@ use Rattle.registers.specs.declared.Registers.{Registers}
 use Rattle.registers.specs.Registers.{inRange}
 use Rattle.loan.specs.declared.Loan.{Loan}
 use Rattle.loan.specs.Loan.{fairLoan}
-use Rattle.moves.specs.DataWords.{points}
+use Rattle.beam.specs.DataWords.{points}
 use Rattle.endings.specs.declared.Ending.the-variants.{NotRunning}
 use Rattle.endings.specs.Endings.{endingNumber}
 use Rattle.runs.specs.declared.Answer.{Answer}

@@ -14,11 +14,12 @@ use Rattle.registers.specs.declared.ByteMotion.{ByteMotion}
 use Rattle.registers.specs.declared.Motion.{Motion}
 use Rattle.registers.specs.declared.Motion.the-variants.{Bytes}
 use Rattle.registers.specs.declared.Registers.{Registers}
-use Rattle.moves.specs.declared.Lit.{Lit}
-use Rattle.moves.specs.declared.Lit.the-variants.{Point}
+use Rattle.beam.specs.declared.Lit.{Lit}
+use Rattle.beam.specs.declared.Lit.the-variants.{Point}
 use Rattle.moves.specs.declared.Move.{Move}
 use Rattle.moves.specs.declared.Moving.the-variants.{Going}
-use Rattle.moves.specs.DataWords.{litAt, byteNext, byteMove, nextMove}
+use Rattle.beam.specs.DataWords.{litAt}
+use Rattle.moves.specs.DataWords.{byteNext, byteMove, nextMove}
 use Rattle.move_sequence.specs.PlainMoves.{goesOn, plain, beamAt}
 use Rattle.move_sequence.proofs.Plain.{tested, Shown, Put, Far, violates, fills, goes}
 

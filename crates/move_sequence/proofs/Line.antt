@@ -22,11 +22,12 @@ use Rattle.registers.specs.declared.Motion.the-variants.{Line}
 use Rattle.registers.specs.declared.Registers.{Registers}
 use Rattle.registers.specs.Registers.{Good}
 use Rattle.registers.proofs.InRange.{line-bounds}
-use Rattle.moves.specs.declared.Lit.{Lit}
-use Rattle.moves.specs.declared.Lit.the-variants.{Point}
+use Rattle.beam.specs.declared.Lit.{Lit}
+use Rattle.beam.specs.declared.Lit.the-variants.{Point}
 use Rattle.moves.specs.declared.Move.{Move}
 use Rattle.moves.specs.declared.Moving.the-variants.{Going}
-use Rattle.moves.specs.DataWords.{litAt, withDone, lineNext, lineMove, nextMove}
+use Rattle.beam.specs.DataWords.{litAt}
+use Rattle.moves.specs.DataWords.{withDone, lineNext, lineMove, nextMove}
 use Rattle.moves.proofs.Kept.{waits}
 use Rattle.move_sequence.specs.PlainMoves.{goesOn, plain, sequence, beamAt}
 use Rattle.move_sequence.proofs.Plain.{at, tested, Shown, Put, Far, spent, violates, fills, goes}

@@ -17,13 +17,14 @@ use Rattle.registers.specs.declared.Base.{Base}
 use Rattle.registers.specs.declared.Motion.{Motion}
 use Rattle.registers.specs.declared.Registers.{Registers}
 use Rattle.registers.specs.Registers.{Good}
-use Rattle.moves.specs.declared.Lit.{Lit}
-use Rattle.moves.specs.declared.Lit.the-variants.{Dark, Point}
+use Rattle.beam.specs.declared.Lit.{Lit}
+use Rattle.beam.specs.declared.Lit.the-variants.{Dark, Point}
 use Rattle.moves.specs.declared.Move.{Move}
-use Rattle.moves.specs.declared.Moved.{Moved}
+use Rattle.beam.specs.declared.Moved.{Moved}
 use Rattle.moves.specs.declared.Moving.the-variants.{Going}
-use Rattle.moves.specs.declared.Stop.the-variants.{On}
-use Rattle.moves.specs.DataWords.{litAt, points, arrived, nextMove, displaced}
+use Rattle.beam.specs.declared.Stop.the-variants.{On}
+use Rattle.beam.specs.DataWords.{litAt, points, arrived}
+use Rattle.moves.specs.DataWords.{nextMove, displaced}
 use Rattle.moves.proofs.Kept.{displaced-good}
 use Rattle.move_sequence.specs.declared.Sequence.{Sequence}
 use Rattle.move_sequence.specs.PlainMoves.{goesOn, plain, leaves, stays, onMove, sequence, beamAt}

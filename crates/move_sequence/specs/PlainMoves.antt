@@ -13,10 +13,11 @@ use Rattle.registers.specs.declared.Motion.{Motion}
 use Rattle.registers.specs.declared.Motion.the-variants.{Nothing, Line, Bytes}
 use Rattle.registers.specs.declared.Registers.{Registers}
 use Rattle.moves.specs.declared.Move.{Move}
-use Rattle.moves.specs.declared.Moved.{Moved}
+use Rattle.beam.specs.declared.Moved.{Moved}
 use Rattle.moves.specs.declared.Moving.{Moving}
 use Rattle.moves.specs.declared.Moving.the-variants.{Still, Going}
-use Rattle.moves.specs.DataWords.{beamSet, points, nextMove, displaced}
+use Rattle.beam.specs.DataWords.{beamSet, points}
+use Rattle.moves.specs.DataWords.{nextMove, displaced}
 use Rattle.move_sequence.specs.declared.Sequence.{Sequence}
 
 -- whether the same motion goes on behind a move: a line's last move ends it, or starts a vector continue over

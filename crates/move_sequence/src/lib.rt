@@ -8,7 +8,7 @@ ghost use Rattle.registers.specs.declared.Motion.the-variants.{Line, Bytes};
 ghost use Rattle.registers.specs.Registers.{Good};
 ghost use Rattle.words.specs.Words.{pick};
 ghost use Rattle.move_sequence.specs.PlainMoves.{beamAt, sequence, leaves};
-use moves::Lit;
+use beam::Lit;
 use registers::Base;
 use registers::ByteMotion;
 use registers::LineMotion;
@@ -68,7 +68,7 @@ pub fn line_moves(b: Base, l: LineMotion, points: &mut [u32], from: usize, limit
         if paper::clear(fieldx, x, stepx) & paper::clear(fieldy, y, stepy) {
             let nextx = std::num::wrapping_add_u16(x, stepx);
             let nexty = std::num::wrapping_add_u16(y, stepy);
-            match moves::lit_at(b, nextx, nexty, l.lit, false) {
+            match beam::lit_at(b, nextx, nexty, l.lit, false) {
                 Lit::Dark => {}
                 Lit::Point(value) => {
                     if place < points.len() {
@@ -115,7 +115,7 @@ pub fn byte_moves(b: Base, t: ByteMotion, points: &mut [u32], from: usize, limit
                 if paper::clear(fieldx, x, stepx) & paper::clear(fieldy, y, stepy) & !m.escape {
                     let nextx = std::num::wrapping_add_u16(x, stepx);
                     let nexty = std::num::wrapping_add_u16(y, stepy);
-                    match moves::lit_at(b, nextx, nexty, m.asked, false) {
+                    match beam::lit_at(b, nextx, nexty, m.asked, false) {
                         Lit::Dark => {}
                         Lit::Point(value) => {
                             if place < points.len() {

@@ -7,7 +7,6 @@ use native.Mathlib.Omega.{arith}
 use lib.Dec.{eqb, ltb, leb}
 use borrow.Author.Tests.{ltb-true, eqb-false, lt-leb}
 use Rattle.words.proofs.Laws.{pick-case}
-use Rattle.paper.specs.declared.Reached.{Reached}
 use Rattle.paper.specs.DataWords.{distance}
 use Rattle.paper.proofs.Moves.{moved-small}
 use Rattle.registers.specs.declared.Base.{Base}
@@ -17,17 +16,12 @@ use Rattle.registers.specs.declared.Motion.{Motion}
 use Rattle.registers.specs.declared.Motion.the-variants.{Nothing, Line, Bytes}
 use Rattle.registers.specs.declared.Registers.{Registers}
 use Rattle.registers.specs.Registers.{byteAt, movesAsked, escapes, GoodBase, GoodMotion, Good}
-use Rattle.registers.proofs.Setting.{x-set, y-set}
 use Rattle.moves.specs.declared.Move.{Move}
-use Rattle.moves.specs.declared.Moved.{Moved}
+use Rattle.beam.specs.declared.Moved.{Moved}
 use Rattle.moves.specs.declared.Moving.the-variants.{Going}
-use Rattle.moves.specs.DataWords.{arrived, withDone, lineNext, lineMove, byteNext, byteMove, nextMove, ended, displaced}
-
-pub arrived-good : (b : Base) (m : Motion) (x y : Reached) (asked escape : Bool) →
-    GoodBase b → x .value < 8192 → y .value < 8192 → GoodMotion m (b .datastate && not escape) (b .mode) →
-    Good (arrived b m x y asked escape .registers)
-unfolding arrived
-arrived-good b m x y asked escape g hx hy h = record { base = y-set (x-set g hx) hy; motion = h }
+use Rattle.beam.specs.DataWords.{ended}
+use Rattle.beam.proofs.Kept.{arrived-good}
+use Rattle.moves.specs.DataWords.{withDone, lineNext, lineMove, byteNext, byteMove, nextMove, displaced}
 
 -- in range after a move, where its escape has taken effect; in a vector continue it takes effect where it ends
 abbrev GoodAfter : Move → Bool → ℕ → Motion → Type 0

@@ -1,57 +1,21 @@
--- Section 'Data words' of 01: move beats, lit points and edges. The paper's rules are in paper's file of this name, the words in drawing's. Assumes nothing.
+-- Section 'Data words' of 01: move beats. The paper's rules are in paper's file of this name, where the beam arrives is in beam's, the words are in drawing's.
+-- Assumes nothing.
 use Prim.Native.Nat.{ℕ, _+_, _-_, _*_, _/_, _%_}
 use mathlib.Core.Bool.{Bool, true, false, not, _&&_, _||_}
-use mathlib.Core.List.{List, [], _∷_}
 use lib.Dec.{eqb, ltb, leb}
-use Rattle.words.specs.Words.{bit, bits, pick}
-use Rattle.paper.specs.declared.Reached.{Reached}
-use Rattle.paper.specs.DataWords.{distance, dimension, moved, advance, sectorZero, point}
+use Rattle.words.specs.Words.{bits, pick}
+use Rattle.paper.specs.DataWords.{distance, dimension, moved, advance}
 use Rattle.registers.specs.declared.Base.{Base}
 use Rattle.registers.specs.declared.LineMotion.{LineMotion}
 use Rattle.registers.specs.declared.ByteMotion.{ByteMotion}
 use Rattle.registers.specs.declared.Motion.{Motion}
 use Rattle.registers.specs.declared.Motion.the-variants.{Nothing, Line, Bytes}
 use Rattle.registers.specs.Registers.{byteAt, movesAsked, escapes, GoodLine}
-use Rattle.moves.specs.declared.Lit.{Lit}
-use Rattle.moves.specs.declared.Lit.the-variants.{Dark, Point}
-use Rattle.moves.specs.declared.Stop.the-variants.{On, Edge}
+use Rattle.beam.specs.DataWords.{arrived, ended}
 use Rattle.moves.specs.declared.Move.{Move}
-use Rattle.moves.specs.declared.Moved.{Moved}
+use Rattle.beam.specs.declared.Moved.{Moved}
 use Rattle.moves.specs.declared.Moving.{Moving}
 use Rattle.moves.specs.declared.Moving.the-variants.{Still, Going}
-
--- what the setter of the code sets, every other register as it was
-abbrev pub beamSet : Base → ℕ → ℕ → Bool → Bool → Bool → Bool → Base
-beamSet b u v d h k r = record { x = u; y = v; conditions = b .conditions; address = b .address; pointer = b .pointer; buttons = b .buttons; scale = b .scale; intensity = b .intensity; mode = b .mode; datastate = d; running = r; horizontal = h; vertical = k; blink = b .blink; pen = b .pen; hold = b .hold; request = b .request; sense = b .sense; idle = b .idle; hit1 = b .hit1; hit2 = b .hit2; internal = b .internal; external = b .external; penflag = b .penflag; manual = b .manual }
-
--- a point lights if the word or byte asks it or condition bit 8 is set, the beam after the beat is in sector 0, and the beat violated nothing (H)
-unfoldable pub litAt : Base → ℕ → ℕ → Bool → Bool → Lit
-litAt b x y asked violated =
-    pick ((asked || bit (b .conditions) 8) && sectorZero x y && not violated) (Point (point x y (b .intensity) (b .blink))) Dark
-
--- a beat lights at most one point
-abbrev pub points : Lit → List ℕ
-points Dark = []
-points (Point p) = p ∷ []
-
--- the beam arrives: unless condition bit 9 is set, a violation sets that axis's flag and stops; the move stands, wrapped; an escape takes effect, an edge
--- stop included
-unfoldable pub arrived : Base → Motion → Reached → Reached → Bool → Bool → Moved
-arrived b m x y asked escape =
-    let violated = x .violated || y .violated in
-    let edge = violated && not (bit (b .conditions) 9) in
-    record {
-      registers =
-          record {
-            base =
-                beamSet b (x .value) (y .value) (b .datastate && not escape) (b .horizontal || edge && x .violated)
-                (b .vertical || edge && y .violated)
-                (b .running && not edge);
-            motion = m;
-          };
-      lit = litAt b (x .value) (y .value) asked violated;
-      stop = pick edge Edge On;
-    }
 
 -- a line with another number of moves done
 abbrev pub withDone : LineMotion → ℕ → LineMotion
@@ -134,19 +98,6 @@ unfoldable pub nextMove : Motion → ℕ → ℕ → Moving
 nextMove Nothing mode scale = Still
 nextMove (Line l) mode scale = Going (lineMove l (distance scale) (eqb mode 3))
 nextMove (Bytes t) mode scale = Going (byteMove t (distance scale))
-
--- vector continue: until a move would violate; that beat moves nothing, lights nothing, sets no flag and ends the command
-unfoldable pub ended : Base → Bool → Moved
-ended b escape =
-    record {
-      registers =
-          record {
-            base = beamSet b (b .x) (b .y) (b .datastate && not escape) (b .horizontal) (b .vertical) (b .running);
-            motion = Nothing;
-          };
-      lit = Dark;
-      stop = On;
-    }
 
 -- a move made: x's dimension by condition bits 6, 7, y's by 4, 5
 unfoldable pub displaced : Base → Move → Moved

@@ -1,35 +1,12 @@
-// Move beats: what a line or a byte does next, where the beam arrives, the point that it lights and the edge that stops it.
+// Move beats: what a line or a byte does next, and the move made.
 ghost use mathlib.Core.Path.{_≡_};
-ghost use Rattle.words.specs.Words.{pick};
 ghost use Rattle.registers.specs.Registers.{GoodLine};
-ghost use Rattle.moves.specs.DataWords.{beamSet, litAt, arrived, ended, lineNext, lineMove, byteNext, byteMove, GoodLineIn, nextMove, displaced};
-ghost use Rattle.moves.specs.declared.Stop.the-variants.{On, Edge};
-use paper::Reached;
+ghost use Rattle.moves.specs.DataWords.{lineNext, lineMove, byteNext, byteMove, GoodLineIn, nextMove, displaced};
+use beam::Moved;
 use registers::Base;
 use registers::ByteMotion;
 use registers::LineMotion;
 use registers::Motion;
-use registers::Registers;
-
-// The point that a beat lights, as an entry of the point list.
-pub enum Lit {
-    Dark,
-    Point(u32),
-}
-
-// Whether a beat stops the display, and by what.
-pub enum Stop {
-    On,
-    Internal,
-    Edge,
-}
-
-// What a beat leaves that stores nothing.
-pub struct Moved {
-    pub registers: Registers,
-    pub lit: Lit,
-    pub stop: Stop,
-}
 
 // One move: how far each axis goes, whether a point is asked for, the motion after it and whether the command escapes with it. A move that
 // continues belongs to a vector continue.
@@ -47,96 +24,6 @@ pub struct Move {
 pub enum Moving {
     Still,
     Going(Move),
-}
-
-fn beam_set(
-    b: Base,
-    x: u16,
-    y: u16,
-    datastate: bool,
-    horizontal: bool,
-    vertical: bool,
-    running: bool,
-) -> Base
-    ensures { λ r. ⌜ r ≡ beamSet b x y datastate horizontal vertical running ⌝ }
-{
-    Base {
-        x,
-        y,
-        datastate,
-        horizontal,
-        vertical,
-        running,
-        ..b
-    }
-}
-
-// The point that a beat lights where the beam arrives.
-pub fn lit_at(b: Base, x: u16, y: u16, asked: bool, violated: bool) -> Lit
-    ensures { λ r. ⌜ r ≡ litAt b x y asked violated ⌝ }
-{
-    let all = words::bit(b.conditions, 8);
-    let screen = paper::sector_zero(x, y);
-    if (asked | all) & screen & !violated {
-        Lit::Point(paper::point(x, y, b.intensity, b.blink))
-    } else {
-        Lit::Dark
-    }
-}
-
-fn edge_if(on: bool) -> Stop
-    ensures { λ r. ⌜ r ≡ pick on Edge On ⌝ }
-{
-    if on { Stop::Edge } else { Stop::On }
-}
-
-// The beam where a beat took it: point, graphplot and move beats end here.
-pub fn arrived(b: Base, motion: Motion, x: Reached, y: Reached, asked: bool, escape: bool) -> Moved
-    ensures { λ r. ⌜ r ≡ arrived b motion x y asked escape ⌝ }
-{
-    let violated = x.violated | y.violated;
-    let edge = violated & !words::bit(b.conditions, 9);
-    let base = beam_set(
-        b,
-        x.value,
-        y.value,
-        b.datastate & !escape,
-        b.horizontal | edge & x.violated,
-        b.vertical | edge & y.violated,
-        b.running & !edge,
-    );
-    let lit = lit_at(b, x.value, y.value, asked, violated);
-    let stop = edge_if(edge);
-    let registers = Registers { base, motion };
-    Moved {
-        registers,
-        lit,
-        stop,
-    }
-}
-
-// The last, still beat of a vector continue.
-fn ended(b: Base, escape: bool) -> Moved
-    ensures { λ r. ⌜ r ≡ ended b escape ⌝ }
-{
-    let base = beam_set(
-        b,
-        b.x,
-        b.y,
-        b.datastate & !escape,
-        b.horizontal,
-        b.vertical,
-        b.running,
-    );
-    let registers = Registers {
-        base,
-        motion: Motion::Nothing,
-    };
-    Moved {
-        registers,
-        lit: Lit::Dark,
-        stop: Stop::On,
-    }
 }
 
 // A line after one more move.
@@ -240,9 +127,9 @@ pub fn displaced(b: Base, m: Move) -> Moved
     let x = paper::moved(words::bits(b.conditions, 6, 7), b.x, m.travelx, m.minusx);
     let y = paper::moved(words::bits(b.conditions, 4, 5), b.y, m.travely, m.minusy);
     if m.continues & (x.violated | y.violated) {
-        ended(b, m.escape)
+        beam::ended(b, m.escape)
     } else {
         let motion = m.motion;
-        arrived(b, motion, x, y, m.asked, m.escape & !m.continues)
+        beam::arrived(b, motion, x, y, m.asked, m.escape & !m.continues)
     }
 }

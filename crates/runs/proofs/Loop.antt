@@ -18,7 +18,7 @@ use Rattle.touches.specs.declared.Act.{Act}
 use Rattle.touches.specs.declared.Resting.{Resting}
 use Rattle.touches.specs.declared.Why.{Why}
 use Rattle.touches.specs.Touches.{Fails, Rests, Does}
-use Rattle.moves.specs.DataWords.{points}
+use Rattle.beam.specs.DataWords.{points}
 use Rattle.beats.specs.OneTurn.{turn}
 use Rattle.beats.proofs.Fine.{Fine, turn-fine}
 use Rattle.endings.specs.declared.Ending.{Ending}

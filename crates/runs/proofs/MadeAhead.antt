@@ -15,13 +15,14 @@ use Rattle.registers.specs.declared.Base.{Base}
 use Rattle.registers.specs.declared.Motion.{Motion}
 use Rattle.registers.specs.declared.Motion.the-variants.{Nothing, Line, Bytes}
 use Rattle.registers.specs.declared.Registers.{Registers}
-use Rattle.moves.specs.declared.Lit.{Lit}
-use Rattle.moves.specs.declared.Lit.the-variants.{Dark}
+use Rattle.beam.specs.declared.Lit.{Lit}
+use Rattle.beam.specs.declared.Lit.the-variants.{Dark}
 use Rattle.moves.specs.declared.Move.{Move}
-use Rattle.moves.specs.declared.Moved.{Moved as MovedBeat}
+use Rattle.beam.specs.declared.Moved.{Moved as MovedBeat}
 use Rattle.moves.specs.declared.Moving.{Moving}
 use Rattle.moves.specs.declared.Moving.the-variants.{Still, Going}
-use Rattle.moves.specs.DataWords.{points, nextMove, displaced}
+use Rattle.beam.specs.DataWords.{points}
+use Rattle.moves.specs.DataWords.{nextMove, displaced}
 use Rattle.moves.proofs.Kept.{neither}
 use Rattle.move_sequence.specs.PlainMoves.{plain, Left as Moves, onMove, sequence}
 use Rattle.move_sequence.proofs.Plain.{both, plainly}

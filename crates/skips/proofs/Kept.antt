@@ -9,8 +9,8 @@ use Rattle.addresses.specs.declared.DisplayAddress.{DisplayAddress}
 use Rattle.addresses.specs.Addresses.{addressAfter}
 use Rattle.registers.specs.declared.Base.{Base}
 use Rattle.registers.specs.Registers.{GoodBase}
-use Rattle.registers.proofs.Setting.{address-set, buttons-set, scale-set, intensity-set}
-use Rattle.skips.specs.ControlWords.{skipping, withByte, buttonSkip, compare, flagSkip, counted, count, sync}
+use Rattle.registers.proofs.Setting.{address-set, scale-set, intensity-set}
+use Rattle.skips.specs.ControlWords.{skipping, flagSkip, counted, count, sync}
 
 pub skipping-good : (b : Base) (skip : Bool) → GoodBase b → GoodBase (skipping b skip)
 unfolding skipping addressAfter
@@ -18,18 +18,6 @@ skipping-good b skip g =
     address-set g (pick-case (λ (a : DisplayAddress). a .0 < 32768) skip (λ _. omega arith) (λ _. omega arith))
 
 -- a bank is taken by its six bits, so the word keeps its twelve
-byte-small : (word byte : ℕ) (right : Bool) → word < 4096 → withByte word right byte < 4096
-unfolding withByte
-byte-small word byte right h = pick-case (λ (n : ℕ). n < 4096) right (λ _. omega arith) (λ _. omega arith)
-
-pub button-skip-good : (b : Base) (w : ℕ) (second : Bool) → GoodBase b → GoodBase (buttonSkip b w second)
-unfolding buttonSkip
-button-skip-good b w second g = buttons-set (skipping-good b _ g) (byte-small _ _ second (g .buttons))
-
-pub compare-good : (b : Base) (w : ℕ) (second : Bool) → GoodBase b → GoodBase (compare b w second)
-unfolding compare
-compare-good b w second g = skipping-good b _ g
-
 pub flag-skip-good : (b : Base) (w : ℕ) → GoodBase b → GoodBase (flagSkip b w)
 unfolding flagSkip
 flag-skip-good b w g = skipping-good b _ g

@@ -1,14 +1,13 @@
--- Section 'Control words' of 01, words 4 to 7, on the registers other than the motion. Words 0 to 3 are in control's file of this name. Assumes nothing.
-use Prim.Native.Nat.{ℕ, _+_, _-_, _*_, _/_, _%_}
+-- Section 'Control words' of 01, words 62 to 67 and 7 on the registers other than the motion, and how every skip goes on. Words 4, 5, 60 and 61 are in
+-- button_skips' file of this name, words 0 to 3 in control's. Assumes nothing.
+use Prim.Native.Nat.{ℕ, _+_, _-_}
 use mathlib.Core.Bool.{Bool, not, _&&_, _||_}
-use lib.Bits.{bitAnd, bitXor}
-use lib.Dec.{eqb, ltb}
-use Rattle.words.specs.Words.{bit, bits, pick}
+use lib.Dec.{ltb}
+use Rattle.words.specs.Words.{bit, pick}
 use Rattle.addresses.specs.declared.DisplayAddress.{DisplayAddress}
 use Rattle.addresses.specs.Addresses.{addressAfter}
 use Rattle.paper.specs.DataWords.{sectorZero}
 use Rattle.registers.specs.declared.Base.{Base}
-use Rattle.registers.specs.Registers.{byteAt}
 use Rattle.registers.specs.With.{withAddress, withButtons, withScale, withIntensity, withBlink, withSense, withIdle}
 
 -- every skip passes two words (01, Control words)
@@ -21,31 +20,6 @@ skipSet b skip buttons sense idle = withIdle (withSense (withButtons (skipping b
 
 abbrev pub countSet : Base → DisplayAddress → ℕ → ℕ → Bool → Base
 countSet b a s i k = withBlink (withIntensity (withScale (withAddress b a) s) i) k
-
--- if bit 3 is 0, skip if any selected button is 0, else if any is 1 (none selected: no skip)
-unfoldable pub skips : ℕ → ℕ → Bool → Bool
-skips buttons selected sense = pick sense (not (eqb (bitAnd buttons selected) 0)) (not (eqb (bitAnd buttons selected) selected))
-
--- then clear, then complement the selected
-unfoldable pub changed : ℕ → ℕ → Bool → Bool → ℕ
-changed buttons selected clear complement =
-    let left = pick clear (buttons - bitAnd buttons selected) buttons in
-    pick complement (bitXor left selected) left
-
--- a word with other left or right six bits
-unfoldable pub withByte : ℕ → Bool → ℕ → ℕ
-withByte word right byte = pick right (word / 64 * 64 + byte % 64) (byte % 64 * 64 + word % 64)
-
--- 4, 5: test, clear and complement the buttons of bank 1, of bank 2; hit flags stay (H)
-unfoldable pub buttonSkip : Base → ℕ → Bool → Base
-buttonSkip b w second =
-    let bank = byteAt (b .buttons) second in
-    let selected = bits w 6 11 in
-    withButtons (skipping b (skips bank selected (bit w 3))) (withByte (b .buttons) second (changed bank selected (bit w 4) (bit w 5)))
-
--- 60, 61: skip unless the six buttons equal bits 6 to 11
-unfoldable pub compare : Base → ℕ → Bool → Base
-compare b w second = skipping b (not (eqb (byteAt (b .buttons) second) (bits w 6 11)))
 
 -- 62: skip once if any asked condition holds: bit 6 always; 7 beam not in sector 0; 8, 9 hit flag of bank 1, 2 off; 10 LPSI off
 unfoldable pub flagSkips : Base → ℕ → Bool

@@ -1,11 +1,11 @@
-// The control words 4 to 7: skips on buttons and flags, counts, and the idle flag. Words 0 to 3 are in control.
+// The control words 62 to 67 and 7: skips on flags, counts, and the idle flag; and how every skip goes on. Words 4, 5, 60 and 61 are in button_skips.
 ghost use mathlib.Core.Path.{_≡_};
 ghost use mathlib.Core.Bool.{false};
-ghost use Rattle.skips.specs.ControlWords.{skipping, skipSet, countSet, skips, changed, withByte, buttonSkip, compare, flagSkips, flagSkip, counted, count, sync};
+ghost use Rattle.skips.specs.ControlWords.{skipping, skipSet, countSet, flagSkips, flagSkip, counted, count, sync};
 use addresses::DisplayAddress;
 use registers::Base;
 
-fn skip_set(b: Base, skip: bool, buttons: u16, sense: bool, idle: bool) -> Base
+pub fn skip_set(b: Base, skip: bool, buttons: u16, sense: bool, idle: bool) -> Base
     ensures { λ r. ⌜ r ≡ skipSet b skip buttons sense idle ⌝ }
 {
     let address = addresses::pick_address(skip, b.address.after(3), b.address.after(1));
@@ -30,64 +30,11 @@ fn count_set(b: Base, address: DisplayAddress, scale: u8, intensity: u8, blink: 
     }
 }
 
-// Whether a word of six buttons makes the display skip: a selected button is 0 or, by sense, 1.
-fn skips(buttons: u16, selected: u16, sense: bool) -> bool
-    ensures { λ r. ⌜ r ≡ skips buttons selected sense ⌝ }
-{
-    let on = buttons & selected;
-    words::pick_bool(sense, on != 0, on != selected)
-}
-
-// Six buttons, the selected ones cleared, then complemented.
-fn changed(buttons: u16, selected: u16, clear: bool, complement: bool) -> u16
-    ensures { λ r. ⌜ r ≡ changed buttons selected clear complement ⌝ }
-{
-    let left = words::pick_u16(clear, buttons - (buttons & selected), buttons);
-    words::pick_u16(complement, left ^ selected, left)
-}
-
-// A word with its left or its right six bits set.
-fn with_byte(word: u16, right: bool, byte: u16) -> u16
-    ensures { λ r. ⌜ r ≡ withByte word right byte ⌝ }
-{
-    words::pick_u16(
-        right,
-        word / 64 * 64 + byte % 64,
-        byte % 64 * 64 + word % 64,
-    )
-}
-
 // A word that does nothing is passed.
 pub fn passed(b: Base) -> Base
     ensures { λ r. ⌜ r ≡ skipping b false ⌝ }
 {
     skip_set(b, false, b.buttons, b.sense, b.idle)
-}
-
-// 4 and 5: skip on the selected buttons of bank 1 or, with `second`, of bank 2.
-pub fn button_skip(b: Base, word: u16, second: bool) -> Base
-    ensures { λ r. ⌜ r ≡ buttonSkip b word second ⌝ }
-{
-    let bank = registers::byte_at(b.buttons, second);
-    let selected = words::bits(word, 6, 11);
-    let skip = skips(bank, selected, words::bit(word, 3));
-    let after = changed(bank, selected, words::bit(word, 4), words::bit(word, 5));
-    skip_set(
-        b,
-        skip,
-        with_byte(b.buttons, second, after),
-        b.sense,
-        b.idle,
-    )
-}
-
-// 60 and 61: skip unless the bank equals bits 6 to 11.
-pub fn compare(b: Base, word: u16, second: bool) -> Base
-    ensures { λ r. ⌜ r ≡ compare b word second ⌝ }
-{
-    let bank = registers::byte_at(b.buttons, second);
-    let wanted = words::bits(word, 6, 11);
-    skip_set(b, bank != wanted, b.buttons, b.sense, b.idle)
 }
 
 // Whether a condition that word 62 asks holds.

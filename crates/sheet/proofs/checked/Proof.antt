@@ -5,8 +5,10 @@ use Rattle.addresses.specs.Addresses.{addressAfter, addressIn, pointerAfter, fi
 use Rattle.paper.specs.DataWords.{distance, moved, offset, advance, sectorZero}
 use Rattle.registers.specs.Registers.{larger, byteAt, movesAsked, escapes}
 use Rattle.control.specs.ControlWords.{scaleBy, penBy, coordinate, mode, jump, push, pushedFirst, pushedSecond}
-use Rattle.skips.specs.ControlWords.{skipping, skips, changed, withByte, buttonSkip}
-use Rattle.moves.specs.DataWords.{litAt, arrived, lineNext, lineMove, byteNext, byteMove, nextMove, ended, displaced}
+use Rattle.skips.specs.ControlWords.{skipping}
+use Rattle.button_skips.specs.ControlWords.{skips, changed, withByte, buttonSkip}
+use Rattle.beam.specs.DataWords.{litAt, arrived, ended}
+use Rattle.moves.specs.DataWords.{lineNext, lineMove, byteNext, byteMove, nextMove, displaced}
 use Rattle.drawing.specs.DataWords.{increment, vectorLine, shortLine, begun, vector, shortVector}
 use Rattle.loan.specs.Loan.{within, mayFetch, mayStore}
 use Rattle.touches.specs.Touches.{got, storing, walk}

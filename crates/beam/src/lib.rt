@@ -1,0 +1,119 @@
+// Where a beat leaves the beam: the point that it lights, the edge that stops it, the registers as it arrives.
+ghost use mathlib.Core.Path.{_≡_};
+ghost use Rattle.words.specs.Words.{pick};
+ghost use Rattle.beam.specs.DataWords.{beamSet, litAt, arrived, ended};
+ghost use Rattle.beam.specs.declared.Stop.the-variants.{On, Edge};
+use paper::Reached;
+use registers::Base;
+use registers::Motion;
+use registers::Registers;
+
+// The point that a beat lights, as an entry of the point list.
+pub enum Lit {
+    Dark,
+    Point(u32),
+}
+
+// Whether a beat stops the display, and by what.
+pub enum Stop {
+    On,
+    Internal,
+    Edge,
+}
+
+// What a beat leaves that stores nothing.
+pub struct Moved {
+    pub registers: Registers,
+    pub lit: Lit,
+    pub stop: Stop,
+}
+
+fn beam_set(
+    b: Base,
+    x: u16,
+    y: u16,
+    datastate: bool,
+    horizontal: bool,
+    vertical: bool,
+    running: bool,
+) -> Base
+    ensures { λ r. ⌜ r ≡ beamSet b x y datastate horizontal vertical running ⌝ }
+{
+    Base {
+        x,
+        y,
+        datastate,
+        horizontal,
+        vertical,
+        running,
+        ..b
+    }
+}
+
+// The point that a beat lights where the beam arrives.
+pub fn lit_at(b: Base, x: u16, y: u16, asked: bool, violated: bool) -> Lit
+    ensures { λ r. ⌜ r ≡ litAt b x y asked violated ⌝ }
+{
+    let all = words::bit(b.conditions, 8);
+    let screen = paper::sector_zero(x, y);
+    if (asked | all) & screen & !violated {
+        Lit::Point(paper::point(x, y, b.intensity, b.blink))
+    } else {
+        Lit::Dark
+    }
+}
+
+fn edge_if(on: bool) -> Stop
+    ensures { λ r. ⌜ r ≡ pick on Edge On ⌝ }
+{
+    if on { Stop::Edge } else { Stop::On }
+}
+
+// The beam where a beat took it: point, graphplot and move beats end here.
+pub fn arrived(b: Base, motion: Motion, x: Reached, y: Reached, asked: bool, escape: bool) -> Moved
+    ensures { λ r. ⌜ r ≡ arrived b motion x y asked escape ⌝ }
+{
+    let violated = x.violated | y.violated;
+    let edge = violated & !words::bit(b.conditions, 9);
+    let base = beam_set(
+        b,
+        x.value,
+        y.value,
+        b.datastate & !escape,
+        b.horizontal | edge & x.violated,
+        b.vertical | edge & y.violated,
+        b.running & !edge,
+    );
+    let lit = lit_at(b, x.value, y.value, asked, violated);
+    let stop = edge_if(edge);
+    let registers = Registers { base, motion };
+    Moved {
+        registers,
+        lit,
+        stop,
+    }
+}
+
+// The last, still beat of a vector continue.
+pub fn ended(b: Base, escape: bool) -> Moved
+    ensures { λ r. ⌜ r ≡ ended b escape ⌝ }
+{
+    let base = beam_set(
+        b,
+        b.x,
+        b.y,
+        b.datastate & !escape,
+        b.horizontal,
+        b.vertical,
+        b.running,
+    );
+    let registers = Registers {
+        base,
+        motion: Motion::Nothing,
+    };
+    Moved {
+        registers,
+        lit: Lit::Dark,
+        stop: Stop::On,
+    }
+}

@@ -1,5 +1,5 @@
 -- Section 'Control words' of 01, words 0 to 3, on the registers other than the motion; hold is ended before (01, One turn of a run). Words 4 to 7 are in
--- skips' file of this name. Assumes nothing.
+-- the files of this name of skips and button_skips. Assumes nothing.
 use Prim.Native.Nat.{ℕ, _+_, _*_, _/_, _%_, _^_}
 use mathlib.Core.Bool.{Bool, not, _&&_, _||_}
 use Rattle.words.specs.Words.{bit, bits, pick}

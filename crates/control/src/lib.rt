@@ -1,5 +1,5 @@
 // The control words 0 to 3, each on the registers other than the motion. A command picks the new values and calls a setter: only setters hold a
-// struct literal, which keeps both the compiled code and the proofs small. Words 4 to 7 are in skips.
+// struct literal, which keeps both the compiled code and the proofs small. Words 4 to 7 are in skips and button_skips.
 ghost use mathlib.Core.Path.{_≡_};
 ghost use Rattle.control.specs.ControlWords.{statusSet, modeSet};
 ghost use Rattle.control.specs.ControlWords.{scaleBy, penBy, parameter, coordinate, mode, jump, push, pushedFirst, pushedSecond, pop};

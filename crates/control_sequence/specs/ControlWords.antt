@@ -1,5 +1,5 @@
 -- Control words one after another: the command beats of 01's section 'One turn of a run' as long as no motion is under way, no stop is asked for and the
--- state is control state. That the turns of a run make the same is proved in machine. Assumes nothing.
+-- state is control state. That the turns of a run make the same is proved in runs. Assumes nothing.
 use Prim.Native.Nat.{ℕ, zero, suc}
 use mathlib.Core.Bool.{_||_}
 use mathlib.Core.List.{List}

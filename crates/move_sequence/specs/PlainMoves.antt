@@ -1,5 +1,5 @@
 -- Plain moves one after another: the move beats of 01's section 'Data words' as long as each goes on with its motion, violates nothing, escapes nothing and
--- has room for its point. That the turns of a run make the same is proved in machine. Assumes nothing.
+-- has room for its point. That the turns of a run make the same is proved in runs. Assumes nothing.
 use Prim.Native.Nat.{ℕ, zero, suc, _+_}
 use mathlib.Core.Bool.{Bool, true, false, not, _&&_}
 use mathlib.Core.List.{List}

@@ -1,5 +1,5 @@
 -- What the code makes ahead of a turn: control words, or plain moves, by the definitions of control_sequence and move_sequence. No reader has to believe this:
--- that a run from there is the same run is proved in proofs/Ahead.antt. Assumes nothing.
+-- that a run from there is the same run is proved in proofs/MadeAhead.antt. Assumes nothing.
 use Prim.Native.Nat.{ℕ, _+_, _-_}
 use mathlib.Core.List.{List}
 use Rattle.registers.specs.declared.Base.{Base}

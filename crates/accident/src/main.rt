@@ -1,8 +1,8 @@
 // The accident of May: an exercise that forgets its stop runs off its end into old words that look like push jumps. Run with the class's loan, with
 // the old words lent too, and with all of memory lent, it shows what the fence keeps.
+use calls::Numbers;
 use libc::STDOUT_FILENO;
 use loan::Loan;
-use machine::Numbers;
 
 // The exercise lies at 1000o, the class's pushdown list at 7000o, and the recovered character table, 64 words of it, behind the list at 7100o.
 const EXERCISE: usize = 512;
@@ -69,9 +69,9 @@ fn tried(lent: Loan) {
     let mut points = [0u32; 16];
     let started = host::operate(registers::fresh(), 1, 512).registers;
     let ready = host::operate(started, 2, LIST as u32).registers;
-    let ran = machine::run(ready, lent, &mut memory, &mut points, 70);
+    let ran = calls::call(ready, lent, &mut memory, &mut points, 70);
     let answer = ran.answer;
-    tell(machine::numbered(answer), damaged(&memory));
+    tell(calls::numbered(answer), damaged(&memory));
 }
 
 fn main() {

@@ -11,8 +11,8 @@ use Rattle.registers.specs.declared.Motion.{Motion}
 use Rattle.registers.specs.declared.Motion.the-variants.{Nothing}
 use Rattle.beam.specs.declared.Lit.{Lit}
 use Rattle.beam.specs.declared.Lit.the-variants.{Dark, Point}
-use Rattle.beam.specs.declared.Stop.the-variants.{On, Edge}
-use Rattle.beam.specs.declared.Moved.{Moved}
+use Rattle.beam.specs.declared.Stop.the-variants.{None, Edge}
+use Rattle.beam.specs.declared.Outcome.{Outcome}
 
 -- what the setter of the code sets, every other register as it was
 abbrev pub beamSet : Base → ℕ → ℕ → Bool → Bool → Bool → Bool → Base
@@ -30,7 +30,7 @@ points (Point p) = p ∷ []
 
 -- the beam arrives: unless condition bit 9 is set, a violation sets that axis's flag and stops; the move stands, wrapped; an escape takes effect, an edge
 -- stop included
-unfoldable pub arrived : Base → Motion → Reached → Reached → Bool → Bool → Moved
+unfoldable pub arrived : Base → Motion → Reached → Reached → Bool → Bool → Outcome
 arrived b m x y asked escape =
     let violated = x .violated || y .violated in
     let edge = violated && not (bit (b .conditions) 9) in
@@ -44,12 +44,12 @@ arrived b m x y asked escape =
             motion = m;
           };
       lit = litAt b (x .value) (y .value) asked violated;
-      stop = pick edge Edge On;
+      stop = pick edge Edge None;
     }
 
 -- vector continue: until a move would violate; that beat moves nothing, lights nothing, sets no flag and ends the command
-unfoldable pub ended : Base → Bool → Moved
-ended b escape =
+unfoldable pub stillEnd : Base → Bool → Outcome
+stillEnd b escape =
     record {
       registers =
           record {
@@ -57,5 +57,5 @@ ended b escape =
             motion = Nothing;
           };
       lit = Dark;
-      stop = On;
+      stop = None;
     }

@@ -1,8 +1,8 @@
 // Where a beat leaves the beam: the point that it lights, the edge that stops it, the registers as it arrives.
 ghost use mathlib.Core.Path.{_≡_};
 ghost use Rattle.words.specs.Words.{pick};
-ghost use Rattle.beam.specs.DataWords.{beamSet, litAt, arrived, ended};
-ghost use Rattle.beam.specs.declared.Stop.the-variants.{On, Edge};
+ghost use Rattle.beam.specs.DataWords.{beamSet, litAt, arrived, stillEnd};
+ghost use Rattle.beam.specs.declared.Stop.the-variants.{None, Edge};
 use paper::Reached;
 use registers::Base;
 use registers::Motion;
@@ -16,13 +16,13 @@ pub enum Lit {
 
 // Whether a beat stops the display, and by what.
 pub enum Stop {
-    On,
+    None,
     Internal,
     Edge,
 }
 
 // What a beat leaves that stores nothing.
-pub struct Moved {
+pub struct Outcome {
     pub registers: Registers,
     pub lit: Lit,
     pub stop: Stop,
@@ -64,13 +64,20 @@ pub fn lit_at(b: Base, x: u16, y: u16, asked: bool, violated: bool) -> Lit
 }
 
 fn edge_if(on: bool) -> Stop
-    ensures { λ r. ⌜ r ≡ pick on Edge On ⌝ }
+    ensures { λ r. ⌜ r ≡ pick on Edge None ⌝ }
 {
-    if on { Stop::Edge } else { Stop::On }
+    if on { Stop::Edge } else { Stop::None }
 }
 
 // The beam where a beat took it: point, graphplot and move beats end here.
-pub fn arrived(b: Base, motion: Motion, x: Reached, y: Reached, asked: bool, escape: bool) -> Moved
+pub fn arrived(
+    b: Base,
+    motion: Motion,
+    x: Reached,
+    y: Reached,
+    asked: bool,
+    escape: bool,
+) -> Outcome
     ensures { λ r. ⌜ r ≡ arrived b motion x y asked escape ⌝ }
 {
     let violated = x.violated | y.violated;
@@ -87,7 +94,7 @@ pub fn arrived(b: Base, motion: Motion, x: Reached, y: Reached, asked: bool, esc
     let lit = lit_at(b, x.value, y.value, asked, violated);
     let stop = edge_if(edge);
     let registers = Registers { base, motion };
-    Moved {
+    Outcome {
         registers,
         lit,
         stop,
@@ -95,8 +102,8 @@ pub fn arrived(b: Base, motion: Motion, x: Reached, y: Reached, asked: bool, esc
 }
 
 // The last, still beat of a vector continue.
-pub fn ended(b: Base, escape: bool) -> Moved
-    ensures { λ r. ⌜ r ≡ ended b escape ⌝ }
+pub fn still_end(b: Base, escape: bool) -> Outcome
+    ensures { λ r. ⌜ r ≡ stillEnd b escape ⌝ }
 {
     let base = beam_set(
         b,
@@ -111,9 +118,9 @@ pub fn ended(b: Base, escape: bool) -> Moved
         base,
         motion: Motion::Nothing,
     };
-    Moved {
+    Outcome {
         registers,
         lit: Lit::Dark,
-        stop: Stop::On,
+        stop: Stop::None,
     }
 }

@@ -12,14 +12,14 @@ use Rattle.skips.specs.ControlWords.{flagSkip, count, sync, skipping}
 use Rattle.button_skips.specs.ControlWords.{buttonSkip, compare}
 use Rattle.beam.specs.declared.Lit.the-variants.{Dark}
 use Rattle.beam.specs.declared.Stop.{Stop}
-use Rattle.beam.specs.declared.Stop.the-variants.{On, Internal}
-use Rattle.beam.specs.declared.Moved.{Moved}
+use Rattle.beam.specs.declared.Stop.the-variants.{None, Internal}
+use Rattle.beam.specs.declared.Outcome.{Outcome}
 use Rattle.touches.specs.declared.Act.{Act}
 use Rattle.touches.specs.declared.Stores.the-variants.{Two}
 use Rattle.touches.specs.Touches.{Beat, fetch, act, whole}
 
 -- a control word that stores nothing: registers, no motion, no point
-abbrev pub done : Base → Stop → Moved
+abbrev pub done : Base → Stop → Outcome
 done b stop = record { registers = record { base = b; motion = Nothing }; lit = Dark; stop = stop }
 
 abbrev pub acted : Base → Stop → Act
@@ -32,19 +32,19 @@ pushAct b w v =
       registers = record { base = push b w v; motion = Nothing };
       stores = Two (fieldZero (b .pointer)) (pushedFirst b) (fieldZero (pointerAfter (b .pointer) 1)) (pushedSecond b);
       lit = Dark;
-      stop = On;
+      stop = None;
     }
 
 -- 2: its words are at the display address and the next; bit 8 pushes
 abbrev pub jumped : Base → ℕ → ℕ → Beat
-jumped b w v = act (pick (bit w 8) (pushAct b w v) (acted (jump b w v) On))
+jumped b w v = act (pick (bit w 8) (pushAct b w v) (acted (jump b w v) None))
 
 unfoldable pub jumpBeat : Base → ℕ → Beat
 jumpBeat b w = fetch (addressAfter (b .address) 1) (jumped b w)
 
 -- 3: a pop fetches at pointer-2 and pointer-1
 abbrev pub popped : Base → ℕ → ℕ → Beat
-popped b w first = fetch (fieldZero (pointerBefore (b .pointer) 1)) (λ second. act (acted (pop b w first second) On))
+popped b w first = fetch (fieldZero (pointerBefore (b .pointer) 1)) (λ second. act (acted (pop b w first second) None))
 
 unfoldable pub popBeat : Base → ℕ → Beat
 popBeat b w = fetch (fieldZero (pointerBefore (b .pointer) 2)) (popped b w)
@@ -60,10 +60,10 @@ miscellaneous b w =
 unfoldable pub controlBeat : Base → ℕ → Beat
 controlBeat b w =
     let operation = bits w 0 2 in
-    pick (eqb operation 0) (act (acted (parameter b w) On))
-    (pick (eqb operation 1) (act (acted (mode b w) (pick (bit w 3) Internal On)))
+    pick (eqb operation 0) (act (acted (parameter b w) None))
+    (pick (eqb operation 1) (act (acted (mode b w) (pick (bit w 3) Internal None)))
     (pick (eqb operation 2) (jumpBeat b w)
     (pick (eqb operation 3) (popBeat b w)
-    (pick (eqb operation 4) (act (acted (buttonSkip b w false) On))
-    (pick (eqb operation 5) (act (acted (buttonSkip b w true) On))
-    (pick (eqb operation 6) (act (acted (miscellaneous b w) On)) (act (acted (sync b w) On))))))))
+    (pick (eqb operation 4) (act (acted (buttonSkip b w false) None))
+    (pick (eqb operation 5) (act (acted (buttonSkip b w true) None))
+    (pick (eqb operation 6) (act (acted (miscellaneous b w) None)) (act (acted (sync b w) None))))))))

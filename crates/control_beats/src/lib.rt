@@ -1,13 +1,11 @@
 // The beats of control words: the touches of each in order, then what it does.
 ghost use mathlib.Core.Path.{_≡_};
-ghost use lib.ListN.{length};
-ghost use Rattle.loan.specs.Loan.{Fair};
-ghost use Rattle.beam.specs.declared.Stop.the-variants.{On, Internal};
+ghost use Rattle.beam.specs.declared.Stop.the-variants.{None, Internal};
 ghost use Rattle.words.specs.Words.{pick};
 ghost use Rattle.touches.specs.Touches.{walk, said};
 ghost use Rattle.control_beats.specs.ControlWords.{done, pushAct, jumpBeat, popBeat, miscellaneous, controlBeat};
 use beam::Lit;
-use beam::Moved;
+use beam::Outcome;
 use beam::Stop;
 use loan::Loan;
 use registers::Base;
@@ -19,20 +17,20 @@ use touches::Stores;
 use touches::Turn;
 
 fn internal_if(on: bool) -> Stop
-    ensures { λ r. ⌜ r ≡ pick on Internal On ⌝ }
+    ensures { λ r. ⌜ r ≡ pick on Internal None ⌝ }
 {
-    if on { Stop::Internal } else { Stop::On }
+    if on { Stop::Internal } else { Stop::None }
 }
 
 // A control word that stores nothing.
-fn done(base: Base, stop: Stop) -> Moved
+fn done(base: Base, stop: Stop) -> Outcome
     ensures { λ r. ⌜ r ≡ done base stop ⌝ }
 {
     let registers = Registers {
         base,
         motion: Motion::Nothing,
     };
-    Moved {
+    Outcome {
         registers,
         lit: Lit::Dark,
         stop,
@@ -59,21 +57,20 @@ fn push_act(b: Base, word: u16, second: u16) -> Act
         registers,
         stores,
         lit: Lit::Dark,
-        stop: Stop::On,
+        stop: Stop::None,
     }
 }
 
 // 2: a jump, or a push.
 fn jump_beat(b: Base, word: u16, l: Loan, memory: &[u16]) -> Turn
-    requires { ⌜ (length (now memory) ≡ 32768) × Fair l ⌝ }
     ensures { λ r. ⌜ said r ≡ walk l (now (memory .entry)) (jumpBeat b word) ⌝ }
 {
-    match touches::fetch(l, memory, b.address.after(1)) {
+    match touches::fetched(l, memory, b.address.after(1)) {
         Got::Word(second) => {
             if words::bit(word, 8) {
                 touches::allowed(l, push_act(b, word, second))
             } else {
-                Turn::Moves(done(control::jump(b, word, second), Stop::On))
+                Turn::Storeless(done(control::jump(b, word, second), Stop::None))
             }
         }
         Got::Not(why) => Turn::Fails(why),
@@ -82,14 +79,16 @@ fn jump_beat(b: Base, word: u16, l: Loan, memory: &[u16]) -> Turn
 
 // 3: a pop.
 fn pop_beat(b: Base, word: u16, l: Loan, memory: &[u16]) -> Turn
-    requires { ⌜ (length (now memory) ≡ 32768) × Fair l ⌝ }
     ensures { λ r. ⌜ said r ≡ walk l (now (memory .entry)) (popBeat b word) ⌝ }
 {
     let at = b.pointer.before(2).in_field_zero();
     let next = b.pointer.before(1).in_field_zero();
-    match touches::fetch(l, memory, at) {
-        Got::Word(first) => match touches::fetch(l, memory, next) {
-            Got::Word(second) => Turn::Moves(done(control::pop(b, word, first, second), Stop::On)),
+    match touches::fetched(l, memory, at) {
+        Got::Word(first) => match touches::fetched(l, memory, next) {
+            Got::Word(second) => Turn::Storeless(done(
+                control::pop(b, word, first, second),
+                Stop::None,
+            )),
             Got::Not(why) => Turn::Fails(why),
         },
         Got::Not(why) => Turn::Fails(why),
@@ -111,18 +110,17 @@ fn miscellaneous(b: Base, word: u16) -> Base
 }
 
 pub fn control_beat(b: Base, word: u16, l: Loan, memory: &[u16]) -> Turn
-    requires { ⌜ (length (now memory) ≡ 32768) × Fair l ⌝ }
     ensures { λ r. ⌜ said r ≡ walk l (now (memory .entry)) (controlBeat b word) ⌝ }
 {
     let operation = words::bits(word, 0, 2);
     match operation {
-        0 => Turn::Moves(done(control::parameter(b, word), Stop::On)),
-        1 => Turn::Moves(done(control::mode(b, word), internal_if(words::bit(word, 3)))),
+        0 => Turn::Storeless(done(control::parameter(b, word), Stop::None)),
+        1 => Turn::Storeless(done(control::mode(b, word), internal_if(words::bit(word, 3)))),
         2 => jump_beat(b, word, l, memory),
         3 => pop_beat(b, word, l, memory),
-        4 => Turn::Moves(done(button_skips::button_skip(b, word, false), Stop::On)),
-        5 => Turn::Moves(done(button_skips::button_skip(b, word, true), Stop::On)),
-        6 => Turn::Moves(done(miscellaneous(b, word), Stop::On)),
-        _ => Turn::Moves(done(skips::sync(b, word), Stop::On)),
+        4 => Turn::Storeless(done(button_skips::button_skip(b, word, false), Stop::None)),
+        5 => Turn::Storeless(done(button_skips::button_skip(b, word, true), Stop::None)),
+        6 => Turn::Storeless(done(miscellaneous(b, word), Stop::None)),
+        _ => Turn::Storeless(done(skips::sync(b, word), Stop::None)),
     }
 }

@@ -20,14 +20,14 @@ use Rattle.touches.specs.declared.Got.{Got}
 use Rattle.touches.specs.declared.Got.the-variants.{Word, Not}
 use Rattle.touches.specs.declared.Stores.{Stores}
 use Rattle.touches.specs.declared.Stores.the-variants.{Nowhere, Two}
-use Rattle.touches.specs.Touches.{Beat, fetch, act, rest, Turn, Fails, Rests, Does, got, onGot, storing, walk}
+use Rattle.touches.specs.Touches.{Beat, fetch, act, rest, Turn, Fails, Rests, Does, fetched, onGot, allowed, walk, store}
 use Rattle.endings.specs.declared.Halt.{Halt}
 use Rattle.endings.specs.declared.Halt.the-variants.{Goes, Ends}
-use Rattle.endings.specs.Endings.{stored, halted}
+use Rattle.endings.specs.Endings.{halted}
 use Rattle.control_beats.specs.ControlWords.{pushAct, jumpBeat, popBeat, controlBeat}
-use Rattle.beats.specs.OneTurn.{unheld, commandBy, commandBeat, unusable, roomFor, turn}
-use Rattle.beats.proofs.Walk.{walk-idle}
-use Rattle.control_sequence.specs.ControlWords.{nextWord, Left, Go, follow, onTurn, obeyed}
+use Rattle.turns.specs.OneTurn.{unheld, commandBy, commandBeat, unusable, roomFor, turn}
+use Rattle.turns.proofs.Walk.{walk-idle}
+use Rattle.control_sequence.specs.ControlWords.{nextWord, ObeyedLeft, Go, follow, onTurn, obey}
 
 -- WHAT A CONTROL WORD DOES
 
@@ -65,20 +65,20 @@ control-bare b w =
     (λ _. pick-case BareBeat (eqb operation 6) (λ _. (refl, refl)) (λ _. (refl, refl))))))))
 
 module _ (l : Loan) (m : List ℕ) where
-  storing-bare : (c : Act) → BareAct c → (s : Stores) → Bare (storing l c s)
-  unfolding storing
-  storing-bare c h Nowhere = h
-  storing-bare c h (Two at word next second) =
+  allowed-bare : (c : Act) → BareAct c → (s : Stores) → Bare (allowed l c s)
+  unfolding allowed
+  allowed-bare c h Nowhere = h
+  allowed-bare c h (Two at word next second) =
       pick-case Bare (mayStore l at) (λ _. pick-case Bare (mayStore l next) (λ _. h) (λ _. tt)) (λ _. tt)
 
   beat-bare : (b : Beat) → BareBeat b → Bare (walk l m b)
   unfolding walk
-  beat-bare (fetch a k) h = by (λ w. beat-bare (k w) (h w)) (got l m a)
+  beat-bare (fetch a k) h = by (λ w. beat-bare (k w) (h w)) (fetched l m a)
     where
       by : ((w : ℕ) → Bare (walk l m (k w))) → (g : Got) → Bare (onGot (λ w. walk l m (k w)) g)
       by ih (Word w) = ih w
       by ih (Not why) = tt
-  beat-bare (act c) h = storing-bare c h (c .stores)
+  beat-bare (act c) h = allowed-bare c h (c .stores)
   beat-bare (rest resting) h = absurd h
 
   pub next-bare : (b : Base) → Bare (walk l m (nextWord b))
@@ -104,7 +104,7 @@ turn-control l m room b d q =
 
 -- WHERE A SEQUENCE GOES ON
 
-abbrev Reached : Left → Type 0
+abbrev Reached : ObeyedLeft → Type 0
 Reached f = f .obeyed .halt ≡ Goes → 0 < f .obeyed .left → (f .obeyed .base .datastate || f .obeyed .base .request) ≡ true
 
 turn-reached : (go : Go) → ((b : Base) (m : List ℕ) → Reached (go b m)) → (n : ℕ) (b : Base) (m : List ℕ) (t : Turn) → Bare t → Reached (onTurn go n b m t)
@@ -113,13 +113,13 @@ turn-reached go ih n b m (Rests resting) h = absurd h
 turn-reached go ih n b m (Does c) h = by (halted (c .stop))
   where
     by : (s : Halt) → Reached (follow go n m c s)
-    by Goes = ih (c .registers .base) (stored (c .stores) m)
+    by Goes = ih (c .registers .base) (store (c .stores) m)
     by (Ends ending) = λ e. absurd (let z : _≡_ {A = ℕ} 0 1 = cc in omega arith)
 
-pub reached : (n : ℕ) (l : Loan) (b : Base) (m : List ℕ) → obeyed n l b m .obeyed .halt ≡ Goes → 0 < obeyed n l b m .obeyed .left →
-    (obeyed n l b m .obeyed .base .datastate || obeyed n l b m .obeyed .base .request) ≡ true
-unfolding obeyed
+pub reached : (n : ℕ) (l : Loan) (b : Base) (m : List ℕ) → obey n l b m .obeyed .halt ≡ Goes → 0 < obey n l b m .obeyed .left →
+    (obey n l b m .obeyed .base .datastate || obey n l b m .obeyed .base .request) ≡ true
+unfolding obey
 reached zero l b m = λ _ h. absurd (omega arith)
 reached (suc k) l b m =
     pick-case Reached (b .datastate || b .request) (λ e _ _. e)
-    (λ _. turn-reached (obeyed k l) (λ c n. reached k l c n) k b m (walk l m (nextWord b)) (next-bare l m b))
+    (λ _. turn-reached (obey k l) (λ c n. reached k l c n) k b m (walk l m (nextWord b)) (next-bare l m b))

@@ -7,13 +7,13 @@ use Rattle.words.specs.Words.{pick}
 use Rattle.registers.specs.declared.Base.{Base}
 use Rattle.loan.specs.declared.Loan.{Loan}
 use Rattle.touches.specs.declared.Act.{Act}
-use Rattle.touches.specs.Touches.{Beat, fetch, Turn, Fails, Rests, Does, walk}
+use Rattle.touches.specs.Touches.{Beat, fetch, Turn, Fails, Rests, Does, walk, store}
 use Rattle.endings.specs.declared.Ending.the-variants.{Failed}
 use Rattle.endings.specs.declared.Halt.{Halt}
 use Rattle.endings.specs.declared.Halt.the-variants.{Goes, Ends}
-use Rattle.endings.specs.Endings.{stored, halted}
+use Rattle.endings.specs.Endings.{halted}
 use Rattle.control_beats.specs.ControlWords.{controlBeat}
-use Rattle.beats.specs.OneTurn.{unheld}
+use Rattle.turns.specs.OneTurn.{unheld}
 use Rattle.control_sequence.specs.declared.Obeyed.{Obeyed}
 
 -- the control word at the display address, hold ended
@@ -21,33 +21,33 @@ abbrev pub nextWord : Base → Beat
 nextWord b = fetch (b .address) (controlBeat (unheld b))
 
 -- what a sequence leaves, with the memory
-pub record Left : Type 0 where
+pub record ObeyedLeft : Type 0 where
   pub obeyed : Obeyed
   pub memory : List ℕ
 
-abbrev pub leaves : Obeyed → List ℕ → Left
+abbrev pub leaves : Obeyed → List ℕ → ObeyedLeft
 leaves o m = record { obeyed = o; memory = m }
 
 -- the sequence ends here, with so many beats not made
-abbrev pub stays : ℕ → Base → List ℕ → Halt → Left
+abbrev pub stays : ℕ → Base → List ℕ → Halt → ObeyedLeft
 stays n b m h = leaves (record { base = b; left = n; halt = h }) m
 
 -- how a sequence goes on, by the registers and the memory
 abbrev pub Go : Type 0
-Go = Base → List ℕ → Left
+Go = Base → List ℕ → ObeyedLeft
 
-abbrev pub follow : Go → ℕ → List ℕ → Act → Halt → Left
-follow go n m c Goes = go (c .registers .base) (stored (c .stores) m)
-follow go n m c (Ends ending) = stays n (c .registers .base) (stored (c .stores) m) (Ends ending)
+abbrev pub follow : Go → ℕ → List ℕ → Act → Halt → ObeyedLeft
+follow go n m c Goes = go (c .registers .base) (store (c .stores) m)
+follow go n m c (Ends ending) = stays n (c .registers .base) (store (c .stores) m) (Ends ending)
 
 -- no control word rests the display
-abbrev pub onTurn : Go → ℕ → Base → List ℕ → Turn → Left
+abbrev pub onTurn : Go → ℕ → Base → List ℕ → Turn → ObeyedLeft
 onTurn go n b m (Fails why) = stays (suc n) b m (Ends (Failed why))
 onTurn go n b m (Rests resting) = stays (suc n) b m Goes
 onTurn go n b m (Does c) = follow go n m c (halted (c .stop))
 
 -- at most so many control words
-unfoldable pub obeyed : ℕ → Loan → Base → List ℕ → Left
-obeyed zero l b m = stays 0 b m Goes
-obeyed (suc k) l b m =
-    pick (b .datastate || b .request) (stays (suc k) b m Goes) (onTurn (obeyed k l) k b m (walk l m (nextWord b)))
+unfoldable pub obey : ℕ → Loan → Base → List ℕ → ObeyedLeft
+obey zero l b m = stays 0 b m Goes
+obey (suc k) l b m =
+    pick (b .datastate || b .request) (stays (suc k) b m Goes) (onTurn (obey k l) k b m (walk l m (nextWord b)))

@@ -4,7 +4,7 @@ ghost use mathlib.Core.Path.{_≡_};
 ghost use lib.ListN.{length};
 ghost use Rattle.registers.specs.Registers.{GoodBase};
 ghost use Rattle.loan.specs.Loan.{Fair};
-ghost use Rattle.control_sequence.specs.ControlWords.{obeyed, leaves};
+ghost use Rattle.control_sequence.specs.ControlWords.{obey, leaves};
 use endings::Ending;
 use endings::Halt;
 use loan::Loan;
@@ -23,14 +23,14 @@ pub struct Obeyed {
 // stops, or a word can't be obeyed.
 pub fn obey(start: Base, l: Loan, memory: &mut [u16], limit: u32) -> Obeyed
     requires { ⌜ (length (now memory) ≡ 32768) × Fair l × GoodBase start ⌝ }
-    ensures { λ r. ⌜ leaves r (now (memory .exit)) ≡ obeyed limit l start (now (memory .entry)) ⌝ }
+    ensures { λ r. ⌜ leaves r (now (memory .exit)) ≡ obey limit l start (now (memory .entry)) ⌝ }
 {
     let mut base = start;
     let mut left = limit;
     while (0 < left) & !base.datastate & !base.request {
-        match touches::fetch(l, &memory[..], base.address) {
+        match touches::fetched(l, &memory[..], base.address) {
             Got::Word(word) => match control_beats::control_beat(
-                beats::unheld(base),
+                turns::unheld(base),
                 word,
                 l,
                 &memory[..],
@@ -49,11 +49,11 @@ pub fn obey(start: Base, l: Loan, memory: &mut [u16], limit: u32) -> Obeyed
                         halt: Halt::Goes,
                     };
                 }
-                Turn::Moves(moved) => {
-                    let further = moved.registers;
+                Turn::Storeless(outcome) => {
+                    let further = outcome.registers;
                     base = further.base;
                     left -= 1;
-                    let halt = moved.stop;
+                    let halt = outcome.stop;
                     match endings::halted(halt) {
                         Halt::Goes => {}
                         Halt::Ends(ending) => {
@@ -67,7 +67,7 @@ pub fn obey(start: Base, l: Loan, memory: &mut [u16], limit: u32) -> Obeyed
                 }
                 Turn::Does(act) => {
                     let stores = act.stores;
-                    endings::store(stores, memory);
+                    touches::store(stores, memory);
                     let next = act.registers;
                     base = next.base;
                     left -= 1;

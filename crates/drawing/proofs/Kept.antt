@@ -15,7 +15,7 @@ use Rattle.registers.specs.declared.Motion.the-variants.{Nothing}
 use Rattle.registers.specs.Registers.{larger, GoodBase, Good}
 use Rattle.registers.specs.With.{withAddress}
 use Rattle.registers.proofs.Setting.{address-set}
-use Rattle.beam.specs.declared.Moved.{Moved}
+use Rattle.beam.specs.declared.Outcome.{Outcome}
 use Rattle.beam.proofs.Kept.{arrived-good}
 use Rattle.moves.proofs.Kept.{some-asked}
 use Rattle.drawing.specs.DataWords.{placed, point, increment, vectorLine, shortLine, begun, vector, shortVector, graphplot}
@@ -35,7 +35,7 @@ point-good b w v g = arrived-good _ Nothing _ _ _ _ (passed b 2 g) (placed-small
 pub graphplot-good : (b : Base) (w : ℕ) → GoodBase b → Good (graphplot b w .registers)
 unfolding graphplot
 graphplot-good b w g =
-    pick-case (λ (q : Moved). Good (q .registers)) _
+    pick-case (λ (q : Outcome). Good (q .registers)) _
     (λ _. arrived-good _ Nothing _ _ _ _ (passed b 1 g) (placed-small w _ _ (g .x)) (moved-small _ _ _ _ (omega arith) (g .y)) tt)
     (λ _. arrived-good _ Nothing _ _ _ _ (passed b 1 g) (moved-small _ _ _ _ (omega arith) (g .x)) (placed-small w _ _ (g .y)) tt)
 
@@ -54,7 +54,7 @@ begun-good : (b : Base) (a : DisplayAddress) (l : LineMotion) →
     Good (begun b a l .registers)
 unfolding begun
 begun-good b a l g d low high h hx hy n k =
-    pick-case (λ (q : Moved). Good (q .registers)) _ (λ _. record { base = address-set g h; motion = tt })
+    pick-case (λ (q : Outcome). Good (q .registers)) _ (λ _. record { base = address-set g h; motion = tt })
     (λ e. let some = eqb-false (l .moves) 0 e in
     record {
       base = address-set g h;

@@ -15,29 +15,29 @@ use Rattle.registers.specs.declared.Motion.the-variants.{Nothing, Line, Bytes}
 use Rattle.registers.specs.Registers.{larger, byteAt, movesAsked}
 use Rattle.registers.specs.With.{withAddress, withDatastate}
 use Rattle.beam.specs.declared.Lit.the-variants.{Dark}
-use Rattle.beam.specs.declared.Stop.the-variants.{On}
-use Rattle.beam.specs.declared.Moved.{Moved}
+use Rattle.beam.specs.declared.Stop.the-variants.{None}
+use Rattle.beam.specs.declared.Outcome.{Outcome}
 use Rattle.beam.specs.DataWords.{arrived}
 
 abbrev pub stateSet : Base → DisplayAddress → Bool → Base
 stateSet b a d = withDatastate (withAddress b a) d
 
-abbrev pub unlit : Base → Motion → Moved
-unlit b m = record { registers = record { base = b; motion = m }; lit = Dark; stop = On }
+abbrev pub unlit : Base → Motion → Outcome
+unlit b m = record { registers = record { base = b; motion = m }; lit = Dark; stop = None }
 
 -- bits 2 to 11 go into the low ten bits, the high three remain; bit 1 inhibits (manual 2.2.1)
 unfoldable pub placed : ℕ → ℕ → Bool → Reached
 placed w old inhibit = record { value = pick inhibit old (old / 1024 * 1024 + bits w 2 11); violated = false }
 
 -- point (two words, y first, one beat): no scale, no violation
-unfoldable pub point : Base → ℕ → ℕ → Moved
+unfoldable pub point : Base → ℕ → ℕ → Outcome
 point b w v =
     arrived (stateSet b (addressAfter (b .address) 2) (b .datastate)) Nothing (placed v (b .x) (bit v 1)) (placed w (b .y) (bit w 1))
     (bit w 0)
     (bit v 0)
 
 -- increment: the left byte's moves come first
-unfoldable pub increment : Base → ℕ → Moved
+unfoldable pub increment : Base → ℕ → Outcome
 increment b w =
     unlit (stateSet b (addressAfter (b .address) 1) (b .datastate))
     (Bytes (record { word = w; moves = movesAsked (byteAt w false); right = false }))
@@ -71,20 +71,20 @@ shortLine w =
     }
 
 -- if both magnitudes are 0, the command beat ends it with no point (H); its escape takes effect with it
-unfoldable pub begun : Base → DisplayAddress → LineMotion → Moved
+unfoldable pub begun : Base → DisplayAddress → LineMotion → Outcome
 begun b a l =
     pick (eqb (l .moves) 0) (unlit (stateSet b a (b .datastate && not (l .escape))) Nothing)
     (unlit (stateSet b a (b .datastate)) (Line l))
 
-unfoldable pub vector : Base → ℕ → ℕ → Moved
+unfoldable pub vector : Base → ℕ → ℕ → Outcome
 vector b w v = begun b (addressAfter (b .address) 2) (vectorLine w v)
 
-unfoldable pub shortVector : Base → ℕ → Moved
+unfoldable pub shortVector : Base → ℕ → Outcome
 shortVector b w = begun b (addressAfter (b .address) 1) (shortLine w)
 
 -- graphplot (one beat): one axis moves +s, the other's low 10 bits are set, after a violation too; the word always asks for its point; bit 1 is 0 where x
 -- moves (manual 2.2.7)
-unfoldable pub graphplot : Base → ℕ → Moved
+unfoldable pub graphplot : Base → ℕ → Outcome
 graphplot b w =
     let next = stateSet b (addressAfter (b .address) 1) (b .datastate) in
     let s = distance (b .scale) in

@@ -3,7 +3,7 @@ ghost use mathlib.Core.Path.{_≡_};
 ghost use Rattle.drawing.specs.DataWords.{stateSet, unlit, placed, point, increment, vectorLine, shortLine, begun, vector, shortVector, graphplot};
 use addresses::DisplayAddress;
 use beam::Lit;
-use beam::Moved;
+use beam::Outcome;
 use beam::Stop;
 use paper::Reached;
 use registers::Base;
@@ -23,14 +23,14 @@ fn state_set(b: Base, address: DisplayAddress, datastate: bool) -> Base
 }
 
 // A command beat that lights nothing and stops nothing.
-fn unlit(base: Base, motion: Motion) -> Moved
+fn unlit(base: Base, motion: Motion) -> Outcome
     ensures { λ r. ⌜ r ≡ unlit base motion ⌝ }
 {
     let registers = Registers { base, motion };
-    Moved {
+    Outcome {
         registers,
         lit: Lit::Dark,
-        stop: Stop::On,
+        stop: Stop::None,
     }
 }
 
@@ -46,7 +46,7 @@ fn placed(word: u16, old: u16, inhibit: bool) -> Reached
 }
 
 // Mode 0: y in the first word, x in the second.
-pub fn point(b: Base, word: u16, second: u16) -> Moved
+pub fn point(b: Base, word: u16, second: u16) -> Outcome
     ensures { λ r. ⌜ r ≡ point b word second ⌝ }
 {
     let y = placed(word, b.y, words::bit(word, 1));
@@ -63,7 +63,7 @@ pub fn point(b: Base, word: u16, second: u16) -> Moved
 }
 
 // Mode 1: the left byte first.
-pub fn increment(b: Base, word: u16) -> Moved
+pub fn increment(b: Base, word: u16) -> Outcome
     ensures { λ r. ⌜ r ≡ increment b word ⌝ }
 {
     let moves = registers::moves_asked(registers::byte_at(word, false));
@@ -115,7 +115,7 @@ fn short_line(word: u16) -> LineMotion
 }
 
 // A line begins; one with both magnitudes 0 ends at once.
-fn begun(b: Base, address: DisplayAddress, line: LineMotion) -> Moved
+fn begun(b: Base, address: DisplayAddress, line: LineMotion) -> Outcome
     ensures { λ r. ⌜ r ≡ begun b address line ⌝ }
 {
     if line.moves == 0 {
@@ -129,21 +129,21 @@ fn begun(b: Base, address: DisplayAddress, line: LineMotion) -> Moved
 }
 
 // Modes 2 and 3: y in the first word, x in the second.
-pub fn vector(b: Base, word: u16, second: u16) -> Moved
+pub fn vector(b: Base, word: u16, second: u16) -> Outcome
     ensures { λ r. ⌜ r ≡ vector b word second ⌝ }
 {
     begun(b, b.address.after(2), vector_line(word, second))
 }
 
 // Mode 4: both in one word.
-pub fn short_vector(b: Base, word: u16) -> Moved
+pub fn short_vector(b: Base, word: u16) -> Outcome
     ensures { λ r. ⌜ r ≡ shortVector b word ⌝ }
 {
     begun(b, b.address.after(1), short_line(word))
 }
 
 // Mode 6: one axis moves on, the other is set.
-pub fn graphplot(b: Base, word: u16) -> Moved
+pub fn graphplot(b: Base, word: u16) -> Outcome
     ensures { λ r. ⌜ r ≡ graphplot b word ⌝ }
 {
     let distance = paper::distance(b.scale);

@@ -1,15 +1,11 @@
--- Section 'Refused calls and run endings' of 01: what a stop, a rest or a failure makes of a run, the words that a beat stores, and the endings' numbers.
--- Assumes nothing.
+-- Section 'Refused calls and run endings' of 01: what a stop, a rest or a failure makes of a run, and the endings' numbers. Assumes
+-- nothing.
 use Prim.Native.Nat.{ℕ}
 use mathlib.Core.Bool.{true, false}
-use mathlib.Core.List.{List}
-use lib.ListN.{set}
 use Rattle.registers.specs.declared.Registers.{Registers}
 use Rattle.registers.specs.With.{withRunning, withRequest, withExternal}
 use Rattle.beam.specs.declared.Stop.{Stop}
-use Rattle.beam.specs.declared.Stop.the-variants.{On, Internal, Edge}
-use Rattle.touches.specs.declared.Stores.{Stores}
-use Rattle.touches.specs.declared.Stores.the-variants.{Nowhere, Two}
+use Rattle.beam.specs.declared.Stop.the-variants.{None, Internal, Edge}
 use Rattle.touches.specs.declared.Resting.{Resting}
 use Rattle.touches.specs.declared.Resting.the-variants.{External, Unusable}
 use Rattle.touches.specs.declared.Why.{Why}
@@ -18,11 +14,6 @@ use Rattle.endings.specs.declared.Ending.{Ending}
 use Rattle.endings.specs.declared.Ending.the-variants.{NotRunning, BudgetSpent, InternalStop, ExternalStop, EdgeStop, UnusableMode, Failed}
 use Rattle.endings.specs.declared.Halt.{Halt}
 use Rattle.endings.specs.declared.Halt.the-variants.{Goes, Ends}
-
--- the words that a beat stores, in order
-abbrev pub stored : Stores → List ℕ → List ℕ
-stored Nowhere m = m
-stored (Two at word next second) m = set (set m (at .0) word) (next .0) second
 
 -- a stop request: request off, external flag on, running off, 13; an unusable mode: running off, 15, no flag
 unfoldable pub rested : Registers → Resting → Registers
@@ -36,7 +27,7 @@ restEnding Unusable = UnusableMode
 
 -- a beat that stops the display ends the run with 12 or 14
 unfoldable pub halted : Stop → Halt
-halted On = Goes
+halted None = Goes
 halted Internal = Ends InternalStop
 halted Edge = Ends EdgeStop
 

@@ -1,13 +1,10 @@
-// How a run ends: what a turn's failure, rest or stop makes of it, the words that a beat stores before, and this paper's number for each ending.
+// How a run ends: what a turn's failure, rest or stop makes of it, and this paper's number for each ending.
 ghost use mathlib.Core.Path.{_≡_};
-ghost use lib.ListN.{length};
-ghost use Rattle.touches.proofs.Fine.{Inside};
-ghost use Rattle.endings.specs.Endings.{stored, rested, restEnding, halted, whyNumber, endingNumber};
+ghost use Rattle.endings.specs.Endings.{rested, restEnding, halted, whyNumber, endingNumber};
 use beam::Stop;
 use registers::Base;
 use registers::Registers;
 use touches::Resting;
-use touches::Stores;
 use touches::Why;
 
 // How a run ended. What could not be made says why, with the address of the touch.
@@ -25,25 +22,6 @@ pub enum Ending {
 pub enum Halt {
     Goes,
     Ends(Ending),
-}
-
-// The words that a beat stores, in order.
-pub fn store(stores: Stores, memory: &mut [u16])
-    requires { ⌜ Inside (length (now memory)) stores ⌝ }
-    ensures { λ _. ⌜ now (memory .exit) ≡ stored stores (now (memory .entry)) ⌝ }
-{
-    match stores {
-        Stores::Nowhere => {}
-        Stores::Two {
-            at,
-            word,
-            next,
-            second,
-        } => {
-            memory[at.0 as usize] = word;
-            memory[next.0 as usize] = second;
-        }
-    }
 }
 
 // The registers of a display that rests.
@@ -86,7 +64,7 @@ pub fn halted(stop: Stop) -> Halt
     ensures { λ r. ⌜ r ≡ halted stop ⌝ }
 {
     match stop {
-        Stop::On => Halt::Goes,
+        Stop::None => Halt::Goes,
         Stop::Internal => Halt::Ends(Ending::InternalStop),
         Stop::Edge => Halt::Ends(Ending::EdgeStop),
     }

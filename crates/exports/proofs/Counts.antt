@@ -17,12 +17,12 @@ use Rattle.loan.specs.declared.Loan.{Loan}
 use Rattle.loan.specs.Loan.{fairLoan}
 use Rattle.touches.specs.Touches.{Turn, Fails, Rests, Does}
 use Rattle.beam.specs.DataWords.{points}
-use Rattle.beats.specs.OneTurn.{turn}
+use Rattle.turns.specs.OneTurn.{turn}
 use Rattle.endings.specs.declared.Halt.{Halt}
 use Rattle.endings.specs.declared.Halt.the-variants.{Goes, Ends}
 use Rattle.endings.specs.Endings.{halted}
-use Rattle.runs.specs.Runs.{Run, Go, follow, onward, run, Left}
-use Rattle.machine.specs.Calls.{entered, call, numbered as answerNumbered}
+use Rattle.runs.specs.Runs.{Run, Go, follow, onward, run, CallLeft}
+use Rattle.calls.specs.Calls.{entered, call, numbered as answerNumbered}
 
 pub reply-points : (q : Reply) → replyNumbered q .points < 4294967296
 reply-points (Refused number) = omega arith
@@ -51,7 +51,7 @@ entered-few : (k : ℕ) (l : Loan) (room : ℕ) (r : Registers) (m : List ℕ) �
 unfolding entered
 entered-few k l room r m = pick-case (λ (f : Run). length (f .lit) ≤ k) (r .base .running) (λ _. run-few k l room r m) (λ _. omega arith)
 
-abbrev pub Few : Left → Type 0
+abbrev pub Few : CallLeft → Type 0
 Few t = answerNumbered (t .ran .answer) .points < 4294967296
 
 pub answer-points : (budget : ℕ) (l : Loan) (r : Registers) (m ps : List ℕ) → Few (call budget l r m ps)

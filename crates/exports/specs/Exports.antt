@@ -1,4 +1,4 @@
--- What each export leaves of the lists that it is lent. The calls themselves are host's `operated` and machine's `call`, with their refusals. Assumes nothing.
+-- What each export leaves of the lists that it is lent. The calls themselves are host's `operate` and calls' `call`, with their refusals. Assumes nothing.
 use Prim.Native.Nat.{ℕ}
 use mathlib.Core.List.{List, [], _∷_}
 use lib.ListN.{getD}
@@ -6,12 +6,12 @@ use Rattle.registers.specs.declared.Registers.{Registers}
 use Rattle.host.specs.declared.Operated.{Operated}
 use Rattle.host.specs.declared.Reply.{Reply}
 use Rattle.host.specs.declared.Reply.the-variants.{Refused, Done}
-use Rattle.host.specs.HostOperations.{operated, numbered as replyNumbered}
+use Rattle.host.specs.HostOperations.{operate, numbered as replyNumbered}
 use Rattle.loan.specs.declared.Loan.{Loan}
 use Rattle.runs.specs.declared.Answer.{Answer}
 use Rattle.runs.specs.declared.Answer.the-variants.{Refused as RefusedRun, Ended}
-use Rattle.runs.specs.Runs.{Left}
-use Rattle.machine.specs.Calls.{call, numbered as answerNumbered}
+use Rattle.runs.specs.Runs.{CallLeft}
+use Rattle.calls.specs.Calls.{call, numbered as answerNumbered}
 use Rattle.numbers.specs.Numbers.{registersOf, rowOf}
 
 -- the loan of its four numbers: file low, file high, list low, list high
@@ -47,7 +47,7 @@ operatedAs row q =
 
 -- the export of an operation: host's call on the registers of the row
 unfoldable pub operates : List ℕ → ℕ → ℕ → OperationLeft
-operates row operation operand = operatedAs row (operated (registersOf row) operation operand)
+operates row operation operand = operatedAs row (operate (registersOf row) operation operand)
 
 -- what a run leaves
 pub record RunLeft : Type 0 where
@@ -60,11 +60,11 @@ abbrev pub runLeaves : List ℕ → List ℕ → List ℕ → List ℕ → RunLe
 runLeaves row m ps answer = record { row = row; memory = m; points = ps; answer = answer }
 
 -- a run's outcome on a row, as numbers
-abbrev pub ranAs : List ℕ → Left → RunLeft
+abbrev pub ranAs : List ℕ → CallLeft → RunLeft
 ranAs row c =
     let n = answerNumbered (c .ran .answer) in
     runLeaves (rowAfterRun (c .ran .answer) (c .ran .registers) row) (c .memory) (c .points) (told (n .ending) (n .word) (n .beats) (n .points))
 
--- the export of a run: the machine's call on the registers of the row
+-- the export of a run: the whole call on the registers of the row
 unfoldable pub runs : ℕ → List ℕ → List ℕ → List ℕ → List ℕ → RunLeft
 runs budget loan row m ps = ranAs row (call budget (loanOf loan) (registersOf row) m ps)

@@ -93,7 +93,7 @@ pub extern "C" fn eveglome_run(
 )
     ensures { λ _. ⌜ runLeaves (now (registers .exit)) (now (memory .exit)) (now (points .exit)) (now (answer .exit)) ≡ runs budget (now (loan .entry)) (now (registers .entry)) (now (memory .entry)) (now (points .entry)) ⌝ }
 {
-    let ran = machine::run(
+    let ran = calls::call(
         numbers::registers_of(*registers),
         loan_of(*loan),
         memory,
@@ -102,7 +102,7 @@ pub extern "C" fn eveglome_run(
     );
     let ended = ran.answer;
     let after = ran.registers;
-    let numbers = machine::numbered(ended);
+    let numbers = calls::numbered(ended);
     leave_run(ended, after, registers);
     *answer = told(numbers.ending, numbers.word, numbers.beats, numbers.points);
 }

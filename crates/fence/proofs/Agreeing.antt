@@ -18,22 +18,22 @@ use Rattle.touches.specs.declared.Got.the-variants.{Word, Not}
 use Rattle.touches.specs.declared.Stores.{Stores}
 use Rattle.touches.specs.declared.Stores.the-variants.{Nowhere, Two}
 use Rattle.touches.specs.declared.Why.the-variants.{Fetch, Wide}
-use Rattle.touches.specs.Touches.{Beat, fetch, act, rest, Turn, Fails, Rests, Does, got, onGot, walk}
+use Rattle.touches.specs.Touches.{Beat, fetch, act, rest, Turn, Fails, Rests, Does, fetched, onGot, walk, store}
 use Rattle.beam.specs.DataWords.{points}
-use Rattle.beats.specs.OneTurn.{beat, turn}
+use Rattle.turns.specs.OneTurn.{beat, turn}
 use Rattle.endings.specs.declared.Ending.{Ending}
 use Rattle.endings.specs.declared.Ending.the-variants.{NotRunning, BudgetSpent, Failed}
 use Rattle.endings.specs.declared.Halt.{Halt}
 use Rattle.endings.specs.declared.Halt.the-variants.{Goes, Ends}
-use Rattle.endings.specs.Endings.{stored, rested, restEnding, halted}
+use Rattle.endings.specs.Endings.{rested, restEnding, halted}
 use Rattle.runs.specs.Runs.{Run, ended, made, Go, follow, onward, run}
-use Rattle.machine.specs.Calls.{entered}
+use Rattle.calls.specs.Calls.{entered}
 use Rattle.fence.specs.Demand3.{Agree, Same}
 
 module _ (l : Loan) (m n : List ℕ) (h : Agree l m n) where
-  got-agrees : (a : DisplayAddress) → got l m a ≡ got l n a
-  unfolding got pick
-  got-agrees a = by (mayFetch l a) (h .1 a)
+  fetched-agrees : (a : DisplayAddress) → fetched l m a ≡ fetched l n a
+  unfolding fetched pick
+  fetched-agrees a = by (mayFetch l a) (h .1 a)
     where
       by : (t : Bool) → (t ≡ true → getD m (a .0) 0 ≡ getD n (a .0) 0) →
           pick t (pick (leb (getD m (a .0) 0) 4095) (Word (getD m (a .0) 0)) (Not (Wide a))) (Not (Fetch a))
@@ -43,7 +43,7 @@ module _ (l : Loan) (m n : List ℕ) (h : Agree l m n) where
 
   walk-agrees : (b : Beat) → walk l m b ≡ walk l n b
   unfolding walk
-  walk-agrees (fetch a k) = rw (got-agrees a) (by (λ w. walk-agrees (k w)) (got l n a))
+  walk-agrees (fetch a k) = rw (fetched-agrees a) (by (λ w. walk-agrees (k w)) (fetched l n a))
     where
       by : ((w : ℕ) → walk l m (k w) ≡ walk l n (k w)) → (g : Got) → onGot (λ w. walk l m (k w)) g ≡ onGot (λ w. walk l n (k w)) g
       by ih (Word w) = ih w
@@ -64,9 +64,9 @@ module _ (l : Loan) (m n : List ℕ) (h : Agree l m n) where
           let le′ : length n ≤ i = omega (arith, h .0) in
           rw (set-out m i v le, set-out n i v le′) q
 
-stored-agrees : (l : Loan) (m n : List ℕ) → Agree l m n → (s : Stores) → Agree l (stored s m) (stored s n)
-stored-agrees l m n h Nowhere = h
-stored-agrees l m n h (Two at word next second) =
+store-agrees : (l : Loan) (m n : List ℕ) → Agree l m n → (s : Stores) → Agree l (store s m) (store s n)
+store-agrees l m n h Nowhere = h
+store-agrees l m n h (Two at word next second) =
     set-agrees l (set m (at .0) word) (set n (at .0) word) (set-agrees l m n h (at .0) word) (next .0) second
 
 made-agrees : {l : Loan} {f g : Run} (ps : List ℕ) → Same l f g → Same l (made ps f) (made ps g)
@@ -91,9 +91,9 @@ module _ (l : Loan) where
     where
       by : (s : Halt) → Same l (follow go room m c s) (follow go room n c s)
       by Goes =
-          ih (room - length (points (c .lit))) (c .registers) (stored (c .stores) m) (stored (c .stores) n)
-          (stored-agrees l m n h (c .stores))
-      by (Ends ending) = ended-agrees (c .registers) ending (stored-agrees l m n h (c .stores))
+          ih (room - length (points (c .lit))) (c .registers) (store (c .stores) m) (store (c .stores) n)
+          (store-agrees l m n h (c .stores))
+      by (Ends ending) = ended-agrees (c .registers) ending (store-agrees l m n h (c .stores))
 
   run-agrees : (k room : ℕ) (r : Registers) (m n : List ℕ) → Agree l m n → Same l (run k l room r m) (run k l room r n)
   unfolding run turn

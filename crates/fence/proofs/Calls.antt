@@ -16,23 +16,23 @@ use Rattle.registers.specs.Registers.{inRange}
 use Rattle.loan.specs.declared.Loan.{Loan}
 use Rattle.loan.specs.Loan.{mayStore, fairLoan, all}
 use Rattle.loan.proofs.Touches.{fair}
-use Rattle.touches.specs.Touches.{Turn, Fails, Rests, Does}
+use Rattle.touches.specs.Touches.{Turn, Fails, Rests, Does, store}
 use Rattle.beam.specs.DataWords.{points}
-use Rattle.beats.specs.OneTurn.{turn}
+use Rattle.turns.specs.OneTurn.{turn}
 use Rattle.endings.specs.declared.Ending.{Ending}
 use Rattle.runs.specs.declared.Answer.the-variants.{Refused, Ended}
 use Rattle.endings.specs.declared.Halt.{Halt}
 use Rattle.endings.specs.declared.Halt.the-variants.{Goes, Ends}
-use Rattle.endings.specs.Endings.{stored, halted}
-use Rattle.runs.specs.Runs.{Run, Go, follow, onward, run, Left, leaves, left}
-use Rattle.machine.specs.Calls.{entered, refusedRun, call}
+use Rattle.endings.specs.Endings.{halted}
+use Rattle.runs.specs.Runs.{Run, Go, follow, onward, run, CallLeft, leaves, left}
+use Rattle.calls.specs.Calls.{entered, refusedRun, call}
 use Rattle.fence.specs.Demand3.{Agree, Same, fenced, spent, SameCall}
 use Rattle.fence.proofs.Agreeing.{entered-agrees}
 use Rattle.fence.proofs.Keeping.{entered-keeps}
 use Rattle.fence.proofs.Freeing.{entered-all, entered-stopped}
 
 -- what holds of the run where all tests pass, and of every refusal, holds of the call
-call-case : (k : ℕ) (l : Loan) (r : Registers) (m ps : List ℕ) (P : Left → Type 0) →
+call-case : (k : ℕ) (l : Loan) (r : Registers) (m ps : List ℕ) (P : CallLeft → Type 0) →
     (eqb (length m) 32768 ≡ true → leb k 65535 ≡ true → fairLoan l ≡ true → inRange r ≡ true → P (left (entered k l (length ps) r m) ps)) →
     ((number : ℕ) → P (leaves (refusedRun r number) m ps)) → P (call k l r m ps)
 unfolding call
@@ -96,7 +96,7 @@ module _ (l : Loan) where
   onward-within k go ih room r m (Does c) = let h = by (halted (c .stop)) in omega arith
     where
       by : (s : Halt) → follow go room m c s .beats ≤ k
-      by Goes = ih (room - length (points (c .lit))) (c .registers) (stored (c .stores) m)
+      by Goes = ih (room - length (points (c .lit))) (c .registers) (store (c .stores) m)
       by (Ends ending) = omega arith
 
   run-within : (k room : ℕ) (r : Registers) (m : List ℕ) → run k l room r m .beats ≤ k
@@ -111,7 +111,7 @@ module _ (l : Loan) where
 pub calls-keep : (k : ℕ) (l : Loan) (r : Registers) (m ps : List ℕ) (a : DisplayAddress) → mayStore l a ≡ false →
     getD (call k l r m ps .memory) (a .0) 0 ≡ getD m (a .0) 0
 calls-keep k l r m ps a e =
-    call-case k l r m ps (λ (t : Left). getD (t .memory) (a .0) 0 ≡ getD m (a .0) 0)
+    call-case k l r m ps (λ (t : CallLeft). getD (t .memory) (a .0) 0 ≡ getD m (a .0) 0)
     (λ _ _ _ _. entered-keeps l k (length ps) r m a e) (λ _. refl)
 
 -- a refusal is no ending
@@ -121,7 +121,7 @@ neither q = let z : _≡_ {A = ℕ} 0 1 = cc in absurd (omega arith)
 pub calls-free : (k : ℕ) (l : Loan) (r : Registers) (m ps : List ℕ) {e : Ending} {b p : ℕ} →
     call k l r m ps .ran .answer ≡ Ended e b p → fenced e ≡ false → call k l r m ps ≡ call k all r m ps
 calls-free k l r m ps {e} {b} {p} =
-    call-case k l r m ps (λ (t : Left). t .ran .answer ≡ Ended e b p → fenced e ≡ false → t ≡ call k all r m ps)
+    call-case k l r m ps (λ (t : CallLeft). t .ran .answer ≡ Ended e b p → fenced e ≡ false → t ≡ call k all r m ps)
     (λ s u f g q h.
     let w : entered k l (length ps) r m .ending ≡ e = cc in
     ap (λ (z : Run). left z ps) (entered-all l (fair l f) k (length ps) r m (rw w h)) ∙ sym (accepted k all r m ps s u all-fair g))
@@ -130,7 +130,7 @@ calls-free k l r m ps {e} {b} {p} =
 pub calls-stopped : (k : ℕ) (l : Loan) (r : Registers) (m ps : List ℕ) {e : Ending} {b p : ℕ} →
     call k l r m ps .ran .answer ≡ Ended e b p → fenced e ≡ true → call b all r m ps ≡ spent (call k l r m ps) b p
 calls-stopped k l r m ps {e} {b} {p} =
-    call-case k l r m ps (λ (t : Left). t .ran .answer ≡ Ended e b p → fenced e ≡ true → call b all r m ps ≡ spent t b p)
+    call-case k l r m ps (λ (t : CallLeft). t .ran .answer ≡ Ended e b p → fenced e ≡ true → call b all r m ps ≡ spent t b p)
     (λ s u f g q h.
     let w : entered k l (length ps) r m .ending ≡ e = cc in
     let beats : entered k l (length ps) r m .beats ≡ b = cc in

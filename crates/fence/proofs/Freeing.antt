@@ -14,7 +14,7 @@ use Rattle.loan.specs.declared.Loan.{Loan}
 use Rattle.loan.specs.Loan.{mayFetch, mayStore, Fair, all}
 use Rattle.loan.proofs.Touches.{may-fetch-all, may-store-all}
 use Rattle.beam.specs.declared.Stop.{Stop}
-use Rattle.beam.specs.declared.Stop.the-variants.{On, Internal, Edge}
+use Rattle.beam.specs.declared.Stop.the-variants.{None, Internal, Edge}
 use Rattle.touches.specs.declared.Act.{Act}
 use Rattle.touches.specs.declared.Got.the-variants.{Word, Not}
 use Rattle.touches.specs.declared.Resting.{Resting}
@@ -23,16 +23,16 @@ use Rattle.touches.specs.declared.Stores.{Stores}
 use Rattle.touches.specs.declared.Stores.the-variants.{Nowhere, Two}
 use Rattle.touches.specs.declared.Why.{Why}
 use Rattle.touches.specs.declared.Why.the-variants.{Fetch, Store, Wide, Full}
-use Rattle.touches.specs.Touches.{Beat, fetch, act, rest, Turn, Fails, Rests, Does, got, onGot, storing, walk}
+use Rattle.touches.specs.Touches.{Beat, fetch, act, rest, Turn, Fails, Rests, Does, fetched, onGot, allowed, walk, store}
 use Rattle.beam.specs.DataWords.{points}
-use Rattle.beats.specs.OneTurn.{beat, roomFor, turn}
+use Rattle.turns.specs.OneTurn.{beat, roomFor, turn}
 use Rattle.endings.specs.declared.Ending.{Ending}
 use Rattle.endings.specs.declared.Ending.the-variants.{NotRunning, InternalStop, EdgeStop, Failed}
 use Rattle.endings.specs.declared.Halt.{Halt}
 use Rattle.endings.specs.declared.Halt.the-variants.{Goes, Ends}
-use Rattle.endings.specs.Endings.{stored, restEnding, halted}
+use Rattle.endings.specs.Endings.{restEnding, halted}
 use Rattle.runs.specs.Runs.{Run, ended, made, Go, follow, onward, run}
-use Rattle.machine.specs.Calls.{entered}
+use Rattle.calls.specs.Calls.{entered}
 use Rattle.fence.specs.Demand3.{fenced, Outside, cut, AtFence}
 
 -- a turn t under the loan and u with all lent: t was stopped by the loan, or they are the same
@@ -47,7 +47,7 @@ Freed l (Does c) u = Does c ≡ u
 -- a beat that stops the display, and a rest, end no run at the fence
 halted-free : (s : Stop) (ending : Ending) → halted s ≡ Ends ending → fenced ending ≡ false
 unfolding halted fenced
-halted-free On ending e = let z : _≡_ {A = ℕ} 0 1 = cc in absurd (omega arith)
+halted-free None ending e = let z : _≡_ {A = ℕ} 0 1 = cc in absurd (omega arith)
 halted-free Internal ending e = let q : InternalStop ≡ ending = cc in rw (← q)
 halted-free Edge ending e = let q : EdgeStop ≡ ending = cc in rw (← q)
 
@@ -69,10 +69,10 @@ record Stopped (l : Loan) (room : ℕ) (r : Registers) (m : List ℕ) (g : Run) 
   before : run (g .beats) all room r m ≡ cut g
 
 module _ (l : Loan) (f : Fair l) where
-  storing-freed : (c : Act) (s : Stores) → Freed l (storing l c s) (storing all c s)
-  unfolding storing pick
-  storing-freed c Nowhere = refl
-  storing-freed c (Two at word next second) = by (mayStore l at) refl (mayStore l next) refl
+  allowed-freed : (c : Act) (s : Stores) → Freed l (allowed l c s) (allowed all c s)
+  unfolding allowed pick
+  allowed-freed c Nowhere = refl
+  allowed-freed c (Two at word next second) = by (mayStore l at) refl (mayStore l next) refl
     where
       by : (t : Bool) → mayStore l at ≡ t → (u : Bool) → mayStore l next ≡ u →
           Freed l (pick t (pick u (Does c) (Fails (Store next))) (Fails (Store at)))
@@ -82,7 +82,7 @@ module _ (l : Loan) (f : Fair l) where
       by false e u e′ = e
 
   walk-freed : (m : List ℕ) (b : Beat) → Freed l (walk l m b) (walk all m b)
-  unfolding walk got pick
+  unfolding walk fetched pick
   walk-freed m (fetch a k) = by (mayFetch l a) refl (leb (getD m (a .0) 0) 4095) (walk-freed m (k (getD m (a .0) 0)))
     where
       by : (t : Bool) → mayFetch l a ≡ t → (u : Bool) → Freed l (walk l m (k (getD m (a .0) 0))) (walk all m (k (getD m (a .0) 0))) →
@@ -91,7 +91,7 @@ module _ (l : Loan) (f : Fair l) where
       by true e true ih = rw (may-fetch-all l f a e) ih
       by true e false ih = rw (may-fetch-all l f a e)
       by false e u ih = e
-  walk-freed m (act c) = storing-freed c (c .stores)
+  walk-freed m (act c) = allowed-freed c (c .stores)
   walk-freed m (rest resting) = refl
 
   room-freed : (room : ℕ) (t u : Turn) → Freed l t u → Freed l (roomFor room t) (roomFor room u)
@@ -123,7 +123,7 @@ module _ (l : Loan) (f : Fair l) where
   onward-all go go′ ih room r m (Does c) u e h = rw (← e) (ap (made (points (c .lit))) (by (halted (c .stop)) h))
     where
       by : (s : Halt) → fenced (follow go room m c s .ending) ≡ false → follow go room m c s ≡ follow go′ room m c s
-      by Goes h = ih (room - length (points (c .lit))) (c .registers) (stored (c .stores) m) h
+      by Goes h = ih (room - length (points (c .lit))) (c .registers) (store (c .stores) m) h
       by (Ends ending) h = refl
 
   run-all : (k room : ℕ) (r : Registers) (m : List ℕ) → fenced (run k l room r m .ending) ≡ false → run k l room r m ≡ run k all room r m
@@ -159,9 +159,9 @@ module _ (l : Loan) (f : Fair l) where
       by : (s : Halt) → halted (c .stop) ≡ s → fenced (follow (run k l) room m c s .ending) ≡ true →
           Stopped l room r m (made (points (c .lit)) (follow (run k l) room m c s))
       by Goes p e =
-          let i = ih (room - length (points (c .lit))) (c .registers) (stored (c .stores) m) e in
-          let s : room - length (points (c .lit) ++ run k l (room - length (points (c .lit))) (c .registers) (stored (c .stores) m) .lit)
-          ≡ room - length (points (c .lit)) - length (run k l (room - length (points (c .lit))) (c .registers) (stored (c .stores) m) .lit) =
+          let i = ih (room - length (points (c .lit))) (c .registers) (store (c .stores) m) e in
+          let s : room - length (points (c .lit) ++ run k l (room - length (points (c .lit))) (c .registers) (store (c .stores) m) .lit)
+          ≡ room - length (points (c .lit)) - length (run k l (room - length (points (c .lit))) (c .registers) (store (c .stores) m) .lit) =
           rw length-append (omega arith)
           in
           record {
@@ -172,7 +172,7 @@ module _ (l : Loan) (f : Fair l) where
             before =
                 rw (← o)
                 (ap (made (points (c .lit)))
-                (ap (follow (run (run k l (room - length (points (c .lit))) (c .registers) (stored (c .stores) m) .beats) all) room m c) p
+                (ap (follow (run (run k l (room - length (points (c .lit))) (c .registers) (store (c .stores) m) .beats) all) room m c) p
                 ∙ i .before));
           }
       by (Ends ending) p e = never _ e (halted-free (c .stop) ending p)

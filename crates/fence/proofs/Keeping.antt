@@ -17,14 +17,14 @@ use Rattle.touches.specs.declared.Got.{Got}
 use Rattle.touches.specs.declared.Got.the-variants.{Word, Not}
 use Rattle.touches.specs.declared.Stores.{Stores}
 use Rattle.touches.specs.declared.Stores.the-variants.{Nowhere, Two}
-use Rattle.touches.specs.Touches.{Beat, fetch, act, rest, Turn, Fails, Rests, Does, got, onGot, storing, walk}
+use Rattle.touches.specs.Touches.{Beat, fetch, act, rest, Turn, Fails, Rests, Does, fetched, onGot, allowed, walk, store}
 use Rattle.beam.specs.DataWords.{points}
-use Rattle.beats.specs.OneTurn.{beat, roomFor, turn}
+use Rattle.turns.specs.OneTurn.{beat, roomFor, turn}
 use Rattle.endings.specs.declared.Halt.{Halt}
 use Rattle.endings.specs.declared.Halt.the-variants.{Goes, Ends}
-use Rattle.endings.specs.Endings.{stored, halted}
+use Rattle.endings.specs.Endings.{halted}
 use Rattle.runs.specs.Runs.{Run, Go, follow, onward, run}
-use Rattle.machine.specs.Calls.{entered}
+use Rattle.calls.specs.Calls.{entered}
 
 -- the loan allows what is stored
 abbrev Lent : Loan → Stores → Type 0
@@ -37,20 +37,20 @@ LentTurn l (Rests resting) = Unit {0}
 LentTurn l (Does c) = Lent l (c .stores)
 
 module _ (l : Loan) where
-  storing-lent : (c : Act) (s : Stores) → (Lent l s → Lent l (c .stores)) → LentTurn l (storing l c s)
-  unfolding storing
-  storing-lent c Nowhere h = h tt
-  storing-lent c (Two at word next second) h =
+  allowed-lent : (c : Act) (s : Stores) → (Lent l s → Lent l (c .stores)) → LentTurn l (allowed l c s)
+  unfolding allowed
+  allowed-lent c Nowhere h = h tt
+  allowed-lent c (Two at word next second) h =
       pick-case (LentTurn l) (mayStore l at) (λ e. pick-case (LentTurn l) (mayStore l next) (λ e′. h (e, e′)) (λ _. tt)) (λ _. tt)
 
   walk-lent : (m : List ℕ) (b : Beat) → LentTurn l (walk l m b)
   unfolding walk
-  walk-lent m (fetch a k) = by (λ w. walk-lent m (k w)) (got l m a)
+  walk-lent m (fetch a k) = by (λ w. walk-lent m (k w)) (fetched l m a)
     where
       by : ((w : ℕ) → LentTurn l (walk l m (k w))) → (g : Got) → LentTurn l (onGot (λ w. walk l m (k w)) g)
       by ih (Word w) = ih w
       by ih (Not why) = tt
-  walk-lent m (act c) = storing-lent c (c .stores) (λ i. i)
+  walk-lent m (act c) = allowed-lent c (c .stores) (λ i. i)
   walk-lent m (rest resting) = tt
 
   room-lent : (room : ℕ) (t : Turn) → LentTurn l t → LentTurn l (roomFor room t)
@@ -64,10 +64,10 @@ module _ (l : Loan) where
   set-keeps m a i v e h =
       getD-set-other m (i .0) (a .0) v 0 (λ p. true≢false (sym h ∙ ap (λ (n : ℕ). mayStore l (address n)) (sym p) ∙ e))
 
-  stored-keeps : (s : Stores) (m : List ℕ) (a : DisplayAddress) → mayStore l a ≡ false → Lent l s →
-      getD (stored s m) (a .0) 0 ≡ getD m (a .0) 0
-  stored-keeps Nowhere m a e h = refl
-  stored-keeps (Two at word next second) m a e h =
+  store-keeps : (s : Stores) (m : List ℕ) (a : DisplayAddress) → mayStore l a ≡ false → Lent l s →
+      getD (store s m) (a .0) 0 ≡ getD m (a .0) 0
+  store-keeps Nowhere m a e h = refl
+  store-keeps (Two at word next second) m a e h =
       set-keeps (set m (at .0) word) a next second e (h .1) ∙ set-keeps m a at word e (h .0)
 
   onward-keeps : (go : Go) (a : DisplayAddress) → mayStore l a ≡ false →
@@ -76,10 +76,10 @@ module _ (l : Loan) where
       getD (onward go room r m t .memory) (a .0) 0 ≡ getD m (a .0) 0
   onward-keeps go a e ih room r m (Fails why) h = refl
   onward-keeps go a e ih room r m (Rests resting) h = refl
-  onward-keeps go a e ih room r m (Does c) h = by (halted (c .stop)) ∙ stored-keeps (c .stores) m a e h
+  onward-keeps go a e ih room r m (Does c) h = by (halted (c .stop)) ∙ store-keeps (c .stores) m a e h
     where
-      by : (s : Halt) → getD (follow go room m c s .memory) (a .0) 0 ≡ getD (stored (c .stores) m) (a .0) 0
-      by Goes = ih (room - length (points (c .lit))) (c .registers) (stored (c .stores) m)
+      by : (s : Halt) → getD (follow go room m c s .memory) (a .0) 0 ≡ getD (store (c .stores) m) (a .0) 0
+      by Goes = ih (room - length (points (c .lit))) (c .registers) (store (c .stores) m)
       by (Ends ending) = refl
 
   run-keeps : (k room : ℕ) (r : Registers) (m : List ℕ) (a : DisplayAddress) → mayStore l a ≡ false →

@@ -1,5 +1,5 @@
 -- What demand 3 says, each sentence with the statement that says it, over demand 2's machine and nothing else: `entered` is the run of an accepted call,
--- `call` the whole call, refused or run (machine's Calls.antt). The proofs look at no instruction. Assumes nothing.
+-- `call` the whole call, refused or run (calls' Calls.antt). The proofs look at no instruction. Assumes nothing.
 use Prim.Native.Nat.{ℕ, _-_}
 use mathlib.Core.Path.{_≡_}
 use mathlib.Core.Bool.{Bool, true, false}
@@ -12,12 +12,12 @@ use Rattle.loan.specs.Loan.{mayFetch, mayStore, Fair, all}
 use Rattle.touches.specs.declared.Why.{Why}
 use Rattle.touches.specs.declared.Why.the-variants.{Fetch, Store, Wide, Full}
 use Rattle.touches.specs.Touches.{Fails}
-use Rattle.beats.specs.OneTurn.{turn}
+use Rattle.turns.specs.OneTurn.{turn}
 use Rattle.endings.specs.declared.Ending.{Ending}
 use Rattle.endings.specs.declared.Ending.the-variants.{NotRunning, BudgetSpent, InternalStop, ExternalStop, EdgeStop, UnusableMode, Failed}
 use Rattle.runs.specs.declared.Answer.the-variants.{Ended}
-use Rattle.runs.specs.Runs.{Run, Left}
-use Rattle.machine.specs.Calls.{entered, call, numbered}
+use Rattle.runs.specs.Runs.{Run, CallLeft}
+use Rattle.calls.specs.Calls.{entered, call, numbered}
 
 -- "two memories that agree on every word lent"
 abbrev pub Agree : Loan → List ℕ → List ℕ → Type 0
@@ -65,13 +65,13 @@ pub record AtFence (l : Loan) (room : ℕ) (r : Registers) (m : List ℕ) (f : R
   pub before : entered (f .beats) all room r m ≡ cut f
 
 -- what two calls answer alike: the registers and the answer, the lent words, and the points lit
-pub record SameCall (l : Loan) (t u : Left) : Type 0 where
+pub record SameCall (l : Loan) (t u : CallLeft) : Type 0 where
   pub ran : t .ran ≡ u .ran
   pub words : Agree l (t .memory) (u .memory)
   pub lit : take (numbered (t .ran .answer) .points) (t .points) ≡ take (numbered (u .ran .answer) .points) (u .points)
 
 -- what a call leaves, with the answer of a budget that is spent
-abbrev pub spent : Left → ℕ → ℕ → Left
+abbrev pub spent : CallLeft → ℕ → ℕ → CallLeft
 spent t b p =
     record {
       ran = record { registers = t .ran .registers; answer = Ended BudgetSpent b p };

@@ -21,7 +21,7 @@ use Rattle.registers.proofs.Setting.{address-set, pointer-set, mode-set, button
 use Rattle.operations.specs.HostOperations.{started, pointed, conditioned, resume, cleared}
 use Rattle.inputs.specs.HostOperations.{pressed, groupCleared}
 use Rattle.host.specs.declared.Operated.{Operated}
-use Rattle.host.specs.HostOperations.{known, limit, withMotion, registersAfter, done, operated, KeepsInRange}
+use Rattle.host.specs.HostOperations.{known, limit, withMotion, registersAfter, done, operate, KeepsInRange}
 
 -- an operand within the limit of an operation is within that of its number
 within : (operation operand k : ℕ) → eqb operation k ≡ true → operand ≤ limit operation → operand ≤ limit k
@@ -87,7 +87,7 @@ module _ (r : Registers) (g : Good r) where
       (λ _. pick-case Good (eqb o 24) (λ _. record { base = g .base; motion = g .motion }) (λ _. g)))))))))))))
 
 pub keeps : KeepsInRange
-unfolding operated done
+unfolding operate done
 keeps r o w h =
     let g = good r h in
     pick-case (λ (q : Operated). inRange (q .registers) ≡ true) (inRange r)

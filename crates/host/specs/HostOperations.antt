@@ -75,8 +75,8 @@ done r operation operand =
     }
 
 -- operations test 4, 5, 6; the first that applies is given, and none otherwise (01, Refused calls)
-unfoldable pub operated : Registers → ℕ → ℕ → Operated
-operated r operation operand =
+unfoldable pub operate : Registers → ℕ → ℕ → Operated
+operate r operation operand =
     pick (inRange r)
     (pick (known operation)
     (pick (leb operand (limit operation)) (done r operation operand) (refused r 6))
@@ -91,4 +91,4 @@ numbered (Done word) = record { ending = 0; word = word; beats = 0; points = 0 }
 
 -- no accepted call leaves registers that 4 refuses (01, Registers): whatever operation and operand arrive, registers in range stay in range
 abbrev pub KeepsInRange : Type 0
-KeepsInRange = (r : Registers) (operation operand : ℕ) → inRange r ≡ true → inRange (operated r operation operand .registers) ≡ true
+KeepsInRange = (r : Registers) (operation operand : ℕ) → inRange r ≡ true → inRange (operate r operation operand .registers) ≡ true

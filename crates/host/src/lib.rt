@@ -1,6 +1,6 @@
 // Host operations: any registers, any operation number and any operand, refused or done. Memory and points are not among the parameters.
 ghost use mathlib.Core.Path.{_≡_};
-ghost use Rattle.host.specs.HostOperations.{known, limit, withMotion, registersAfter, reading, refused, done, operated, numbered, KeepsInRange};
+ghost use Rattle.host.specs.HostOperations.{known, limit, withMotion, registersAfter, reading, refused, done, operate, numbered, KeepsInRange};
 use addresses::DisplayAddress;
 use addresses::PushdownPointer;
 use registers::Base;
@@ -121,7 +121,7 @@ fn done(r: Registers, operation: u32, operand: u16) -> Operated
 
 // An operation on the registers: refused by the first of 4, 5, 6 that applies, or done.
 pub fn operate(r: Registers, operation: u32, operand: u32) -> Operated
-    ensures { λ q. ⌜ q ≡ operated r operation operand ⌝ }
+    ensures { λ q. ⌜ q ≡ operate r operation operand ⌝ }
 {
     if registers::in_range(r) {
         if known(operation) {

@@ -10,9 +10,9 @@ use Rattle.words.specs.Words.{pick}
 use Rattle.registers.specs.declared.Registers.{Registers}
 use Rattle.loan.specs.Loan.{all}
 use Rattle.runs.specs.declared.Ran.{Ran}
-use Rattle.machine.specs.declared.Numbers.{Numbers}
+use Rattle.calls.specs.declared.Numbers.{Numbers}
 use Rattle.runs.specs.Runs.{leaves}
-use Rattle.machine.specs.Calls.{call, numbered}
+use Rattle.calls.specs.Calls.{call, numbered}
 use Rattle.lines.specs.Lines.{Read, read, start}
 use Rattle.text.specs.Text.{Filled, filled, puts, whole}
 use Rattle.text.proofs.Puts.{puts-whole}

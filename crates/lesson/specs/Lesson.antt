@@ -8,10 +8,10 @@ use lib.ListN.{length, take, replicate}
 use Rattle.words.specs.Words.{pick}
 use Rattle.registers.specs.declared.Registers.{Registers}
 use Rattle.registers.specs.Registers.{fresh}
-use Rattle.host.specs.HostOperations.{operated}
+use Rattle.host.specs.HostOperations.{operate}
 use Rattle.loan.specs.Loan.{all}
-use Rattle.runs.specs.Runs.{Left}
-use Rattle.machine.specs.Calls.{call, numbered}
+use Rattle.runs.specs.Runs.{CallLeft}
+use Rattle.calls.specs.Calls.{call, numbered}
 use Rattle.lines.specs.Lines.{Read, read, start}
 use Rattle.text.specs.Text.{decimal, number}
 use Rattle.points.specs.Points.{pointX, pointY, pointIntensity, pointBlink}
@@ -28,10 +28,10 @@ room = replicate 1024 0
 
 -- a fresh display, started at an address
 unfoldable pub begun : ℕ → Registers
-begun a = operated fresh 1 a .registers
+begun a = operate fresh 1 a .registers
 
 -- all lent, budget 65,535
-unfoldable pub played : ℕ → List ℕ → Left
+unfoldable pub played : ℕ → List ℕ → CallLeft
 played a m = call 65535 all (begun a) m room
 
 -- WHAT IS WRITTEN
@@ -52,7 +52,7 @@ unfoldable pub endingLine : ℕ → ℕ → List ℕ
 endingLine ending beats =
     (101 ∷ 110 ∷ 100 ∷ 105 ∷ 110 ∷ 103 ∷ 32 ∷ []) ++ decimal ending ++ (32 ∷ 98 ∷ 101 ∷ 97 ∷ 116 ∷ 115 ∷ 32 ∷ []) ++ number beats 10
 
-unfoldable pub told : Left → List ℕ
+unfoldable pub told : CallLeft → List ℕ
 told t =
     let numbers = numbered (t .ran .answer) in
     pointLines (numbers .points) (t .points) ++ endingLine (numbers .ending) (numbers .beats)

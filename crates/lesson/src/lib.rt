@@ -4,8 +4,8 @@ ghost use Prim.Native.Nat.{_≤_};
 ghost use lib.ListN.{length};
 ghost use Rattle.text.specs.Text.{filled, puts, whole};
 ghost use Rattle.lesson.specs.Lesson.{blank, room, begun, played, pointLine, pointLines, endingLine, told, badLine, practice, Enough};
+use calls::Numbers;
 use loan::Loan;
-use machine::Numbers;
 use registers::Registers;
 
 // The memory before any line, and the point list before the run. Arrays of their own functions, so that no other proof has them written out.
@@ -70,9 +70,9 @@ fn play(address: u16, memory: &mut [u16; 32768], text: &mut [u8], place: usize) 
         listlow: 0,
         listhigh: 32768,
     };
-    let ran = machine::run(begun(address), all, memory, &mut points, 65535);
+    let ran = calls::call(begun(address), all, memory, &mut points, 65535);
     let answer = ran.answer;
-    let told = machine::numbered(answer);
+    let told = calls::numbered(answer);
     let drawn = put_points(&points, told.points, text, place);
     put_ending(told, text, drawn)
 }

@@ -20,9 +20,9 @@ use Rattle.registers.specs.Registers.{Good}
 use Rattle.beam.specs.declared.Lit.{Lit}
 use Rattle.beam.specs.declared.Lit.the-variants.{Dark, Point}
 use Rattle.moves.specs.declared.Move.{Move}
-use Rattle.beam.specs.declared.Moved.{Moved}
+use Rattle.beam.specs.declared.Outcome.{Outcome}
 use Rattle.moves.specs.declared.Moving.the-variants.{Going}
-use Rattle.beam.specs.declared.Stop.the-variants.{On}
+use Rattle.beam.specs.declared.Stop.the-variants.{None}
 use Rattle.beam.specs.DataWords.{litAt, points, arrived}
 use Rattle.moves.specs.DataWords.{nextMove, displaced}
 use Rattle.moves.proofs.Kept.{displaced-good}
@@ -46,8 +46,8 @@ abbrev pub at : Base → ℕ → ℕ → Motion → Registers
 at b x y m = record { base = beamAt b x y; motion = m }
 
 -- what a plain move leaves at x and y
-abbrev pub there : Base → Move → ℕ → ℕ → Moved
-there b v x y = record { registers = at b x y (v .motion); lit = litAt b x y (v .asked) false; stop = On }
+abbrev pub there : Base → Move → ℕ → ℕ → Outcome
+there b v x y = record { registers = at b x y (v .motion); lit = litAt b x y (v .asked) false; stop = None }
 
 -- the point that it lights
 abbrev pub lights : Base → Move → Lit

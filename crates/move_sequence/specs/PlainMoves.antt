@@ -13,7 +13,7 @@ use Rattle.registers.specs.declared.Motion.{Motion}
 use Rattle.registers.specs.declared.Motion.the-variants.{Nothing, Line, Bytes}
 use Rattle.registers.specs.declared.Registers.{Registers}
 use Rattle.moves.specs.declared.Move.{Move}
-use Rattle.beam.specs.declared.Moved.{Moved}
+use Rattle.beam.specs.declared.Outcome.{Outcome}
 use Rattle.moves.specs.declared.Moving.{Moving}
 use Rattle.moves.specs.declared.Moving.the-variants.{Still, Going}
 use Rattle.beam.specs.DataWords.{beamSet, points}
@@ -35,26 +35,26 @@ plain b v =
     && not (moved (dimension (bits (b .conditions) 4 5)) (b .y) (v .travely) (v .minusy) .violated)
 
 -- what a sequence leaves, with the point list
-pub record Left : Type 0 where
+pub record SequenceLeft : Type 0 where
   pub sequence : Sequence
   pub points : List ℕ
 
-abbrev pub leaves : Sequence → List ℕ → Left
+abbrev pub leaves : Sequence → List ℕ → SequenceLeft
 leaves s ps = record { sequence = s; points = ps }
 
 -- the sequence ends here, with so many moves not made
-abbrev pub stays : ℕ → Registers → List ℕ → ℕ → Left
+abbrev pub stays : ℕ → Registers → List ℕ → ℕ → SequenceLeft
 stays n r ps place = leaves (record { registers = r; place = place; left = n }) ps
 
 -- how a sequence goes on, by the registers, the point list and the next place in it
 abbrev pub Go : Type 0
-Go = Registers → List ℕ → ℕ → Left
+Go = Registers → List ℕ → ℕ → SequenceLeft
 
 -- a move made, with its point at the next place
-abbrev pub follow : Go → List ℕ → ℕ → Moved → Left
+abbrev pub follow : Go → List ℕ → ℕ → Outcome → SequenceLeft
 follow go ps place c = go (c .registers) (sets ps place (points (c .lit))) (place + length (points (c .lit)))
 
-abbrev pub onMove : Go → ℕ → Registers → List ℕ → ℕ → Moving → Left
+abbrev pub onMove : Go → ℕ → Registers → List ℕ → ℕ → Moving → SequenceLeft
 onMove go n r ps place Still = stays n r ps place
 onMove go n r ps place (Going v) =
     pick (plain (r .base) v && leb (place + length (points (displaced (r .base) v .lit))) (length ps))
@@ -62,7 +62,7 @@ onMove go n r ps place (Going v) =
     (stays n r ps place)
 
 -- at most so many plain moves
-unfoldable pub sequence : ℕ → Registers → List ℕ → ℕ → Left
+unfoldable pub sequence : ℕ → Registers → List ℕ → ℕ → SequenceLeft
 sequence zero r ps place = stays 0 r ps place
 sequence (suc k) r ps place =
     onMove (sequence k) (suc k) r ps place (nextMove (r .motion) (r .base .mode) (r .base .scale))

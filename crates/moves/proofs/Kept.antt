@@ -17,9 +17,9 @@ use Rattle.registers.specs.declared.Motion.the-variants.{Nothing, Line, Bytes}
 use Rattle.registers.specs.declared.Registers.{Registers}
 use Rattle.registers.specs.Registers.{byteAt, movesAsked, escapes, GoodBase, GoodMotion, Good}
 use Rattle.moves.specs.declared.Move.{Move}
-use Rattle.beam.specs.declared.Moved.{Moved}
+use Rattle.beam.specs.declared.Outcome.{Outcome}
 use Rattle.moves.specs.declared.Moving.the-variants.{Going}
-use Rattle.beam.specs.DataWords.{ended}
+use Rattle.beam.specs.DataWords.{stillEnd}
 use Rattle.beam.proofs.Kept.{arrived-good}
 use Rattle.moves.specs.DataWords.{withDone, lineNext, lineMove, byteNext, byteMove, nextMove, displaced}
 
@@ -28,9 +28,9 @@ abbrev GoodAfter : Move → Bool → ℕ → Motion → Type 0
 GoodAfter m datastate mode n = GoodMotion n (datastate && not (m .escape && not (m .continues))) mode
 
 made-good : (b : Base) (m : Move) → GoodBase b → GoodAfter m (b .datastate) (b .mode) (m .motion) → Good (displaced b m .registers)
-unfolding displaced ended
+unfolding displaced stillEnd
 made-good b m g h =
-    pick-case (λ (q : Moved). Good (q .registers)) _ (λ _. record { base = g; motion = tt })
+    pick-case (λ (q : Outcome). Good (q .registers)) _ (λ _. record { base = g; motion = tt })
     (λ _. arrived-good b (m .motion) _ _ _ _ g (moved-small _ (b .x) _ _ (omega arith) (g .x)) (moved-small _ (b .y) _ _ (omega arith) (g .y)) h)
 
 -- a line escapes with its last beat, and a vector continue only where it ends

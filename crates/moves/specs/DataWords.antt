@@ -11,9 +11,9 @@ use Rattle.registers.specs.declared.ByteMotion.{ByteMotion}
 use Rattle.registers.specs.declared.Motion.{Motion}
 use Rattle.registers.specs.declared.Motion.the-variants.{Nothing, Line, Bytes}
 use Rattle.registers.specs.Registers.{byteAt, movesAsked, escapes, GoodLine}
-use Rattle.beam.specs.DataWords.{arrived, ended}
+use Rattle.beam.specs.DataWords.{arrived, stillEnd}
 use Rattle.moves.specs.declared.Move.{Move}
-use Rattle.beam.specs.declared.Moved.{Moved}
+use Rattle.beam.specs.declared.Outcome.{Outcome}
 use Rattle.moves.specs.declared.Moving.{Moving}
 use Rattle.moves.specs.declared.Moving.the-variants.{Still, Going}
 
@@ -100,9 +100,9 @@ nextMove (Line l) mode scale = Going (lineMove l (distance scale) (eqb mode 3))
 nextMove (Bytes t) mode scale = Going (byteMove t (distance scale))
 
 -- a move made: x's dimension by condition bits 6, 7, y's by 4, 5
-unfoldable pub displaced : Base → Move → Moved
+unfoldable pub displaced : Base → Move → Outcome
 displaced b m =
     let x = moved (dimension (bits (b .conditions) 6 7)) (b .x) (m .travelx) (m .minusx) in
     let y = moved (dimension (bits (b .conditions) 4 5)) (b .y) (m .travely) (m .minusy) in
-    pick (m .continues && (x .violated || y .violated)) (ended b (m .escape))
+    pick (m .continues && (x .violated || y .violated)) (stillEnd b (m .escape))
     (arrived b (m .motion) x y (m .asked) (m .escape && not (m .continues)))

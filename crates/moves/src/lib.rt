@@ -2,7 +2,7 @@
 ghost use mathlib.Core.Path.{_≡_};
 ghost use Rattle.registers.specs.Registers.{GoodLine};
 ghost use Rattle.moves.specs.DataWords.{lineNext, lineMove, byteNext, byteMove, GoodLineIn, nextMove, displaced};
-use beam::Moved;
+use beam::Outcome;
 use registers::Base;
 use registers::ByteMotion;
 use registers::LineMotion;
@@ -121,13 +121,13 @@ pub fn next_move(m: Motion, mode: u8, scale: u8) -> Moving
 }
 
 // A move made. A vector continue ends, still, where it would violate.
-pub fn displaced(b: Base, m: Move) -> Moved
+pub fn displaced(b: Base, m: Move) -> Outcome
     ensures { λ r. ⌜ r ≡ displaced b m ⌝ }
 {
     let x = paper::moved(words::bits(b.conditions, 6, 7), b.x, m.travelx, m.minusx);
     let y = paper::moved(words::bits(b.conditions, 4, 5), b.y, m.travely, m.minusy);
     if m.continues & (x.violated | y.violated) {
-        beam::ended(b, m.escape)
+        beam::still_end(b, m.escape)
     } else {
         let motion = m.motion;
         beam::arrived(b, motion, x, y, m.asked, m.escape & !m.continues)

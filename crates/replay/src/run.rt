@@ -10,8 +10,8 @@ use crate::input;
 use crate::input::Reader;
 use crate::lent;
 use crate::output;
+use calls::Numbers;
 use loan::Loan;
-use machine::Numbers;
 use registers::Registers;
 
 // The largest BUDGET, FLO, FHI, LLO, LHI, ROOM, MEMLEN, DEFAULT and COUNT, as the types and the format give them.
@@ -79,10 +79,10 @@ fn play(
 ) -> usize {
     let registers = case.registers;
     let ranges = case.ranges;
-    let ran = machine::run(registers, ranges, memory, points, case.budget);
+    let ran = calls::call(registers, ranges, memory, points, case.budget);
     let answer = ran.answer;
     let left = ran.registers;
-    let told = machine::numbered(answer);
+    let told = calls::numbered(answer);
     let held = write(left, told, out, place);
     let lighted = lent::write_points(points, told.points, out, held);
     let changed = lent::write_memory(memory, before, out, lighted);

@@ -17,17 +17,18 @@ use Rattle.loan.specs.Loan.{Fair}
 use Rattle.touches.specs.declared.Act.{Act}
 use Rattle.touches.specs.declared.Resting.{Resting}
 use Rattle.touches.specs.declared.Why.{Why}
-use Rattle.touches.specs.Touches.{Fails, Rests, Does}
+use Rattle.touches.specs.Touches.{Fails, Rests, Does, store}
 use Rattle.beam.specs.DataWords.{points}
-use Rattle.beats.specs.OneTurn.{turn}
-use Rattle.beats.proofs.Fine.{Fine, turn-fine}
+use Rattle.turns.specs.OneTurn.{turn}
+use Rattle.turns.proofs.Fine.{Fine, turn-fine}
 use Rattle.endings.specs.declared.Ending.{Ending}
 use Rattle.endings.specs.declared.Ending.the-variants.{BudgetSpent, Failed}
 use Rattle.endings.specs.declared.Halt.the-variants.{Goes, Ends}
 use Rattle.runs.specs.declared.Answer.the-variants.{Ended}
 use Rattle.runs.specs.declared.Ran.{Ran}
-use Rattle.endings.specs.Endings.{stored, halted, rested, restEnding}
-use Rattle.endings.proofs.Kept.{rested-good, length-stored}
+use Rattle.endings.specs.Endings.{halted, rested, restEnding}
+use Rattle.touches.proofs.Walk.{length-store}
+use Rattle.endings.proofs.Kept.{rested-good}
 use Rattle.runs.specs.Runs.{Run, ended, made, follow, onward, run, leaves, left}
 
 -- a run after points and beats that were made before it
@@ -125,7 +126,7 @@ module _ {l : Loan} {m₀ ps₀ : List ℕ} {k : ℕ} {r₀ : Registers} {m ps :
         fine = rw q at (turn-fine l fair (length ps₀ - n) r (h .good) m)
 
         -- after a beat, whether it stops the display or not
-        beaten : Far l m₀ ps₀ k r₀ (stored (c .stores) m) (sets ps n (points (c .lit))) (c .registers) (b + 1) (n + length (points (c .lit)))
+        beaten : Far l m₀ ps₀ k r₀ (store (c .stores) m) (sets ps n (points (c .lit))) (c .registers) (b + 1) (n + length (points (c .lit)))
             (follow (run (k - (b + 1)) l) (length ps₀ - n) m c (halted (c .stop)))
         beaten =
             let fit : n + length (points (c .lit)) ≤ length ps₀ = omega (arith, fine .fits, h .room) in
@@ -134,14 +135,14 @@ module _ {l : Loan} {m₀ ps₀ : List ℕ} {k : ℕ} {r₀ : Registers} {m ps :
               count = rw (length-append, h .count);
               room = fit;
               drawn = rw (h .drawn) (drawn-more (h .lit) ps₀ (points (c .lit)) n (h .count) fit);
-              size = length-stored (c .stores) m ∙ h .size;
+              size = length-store (c .stores) m ∙ h .size;
               good = fine .good;
               spent = omega arith;
               whole = h .whole ∙ ap (after (h .lit) b) (one ∙ rw q) ∙ after-made (h .lit) (points (c .lit)) b _;
             }
 
         -- the same, of what store and put left
-        module _ {m′ ps′ : List ℕ} {n′ : ℕ} (em : m′ ≡ stored (c .stores) m) (ep : ps′ ≡ sets ps n (points (c .lit))) (en : n′ ≡ n + length (points (c .lit))) where
+        module _ {m′ ps′ : List ℕ} {n′ : ℕ} (em : m′ ≡ store (c .stores) m) (ep : ps′ ≡ sets ps n (points (c .lit))) (en : n′ ≡ n + length (points (c .lit))) where
           pub goes : halted (c .stop) ≡ Goes → Far l m₀ ps₀ k r₀ m′ ps′ (c .registers) (b + 1) n′ (run (k - (b + 1)) l (length ps₀ - n′) (c .registers) m′)
           goes p =
               let e : length ps₀ - n - length (points (c .lit)) ≡ length ps₀ - (n + length (points (c .lit))) = omega arith in

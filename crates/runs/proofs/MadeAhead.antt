@@ -18,35 +18,35 @@ use Rattle.registers.specs.declared.Registers.{Registers}
 use Rattle.beam.specs.declared.Lit.{Lit}
 use Rattle.beam.specs.declared.Lit.the-variants.{Dark}
 use Rattle.moves.specs.declared.Move.{Move}
-use Rattle.beam.specs.declared.Moved.{Moved as MovedBeat}
+use Rattle.beam.specs.declared.Outcome.{Outcome}
 use Rattle.moves.specs.declared.Moving.{Moving}
 use Rattle.moves.specs.declared.Moving.the-variants.{Still, Going}
 use Rattle.beam.specs.DataWords.{points}
 use Rattle.moves.specs.DataWords.{nextMove, displaced}
 use Rattle.moves.proofs.Kept.{neither}
-use Rattle.move_sequence.specs.PlainMoves.{plain, Left as Moves, onMove, sequence}
+use Rattle.move_sequence.specs.PlainMoves.{plain, SequenceLeft, onMove, sequence}
 use Rattle.move_sequence.proofs.Plain.{both, plainly}
 use Rattle.loan.specs.declared.Loan.{Loan}
 use Rattle.loan.specs.Loan.{Fair}
 use Rattle.touches.specs.declared.Act.{Act}
-use Rattle.touches.specs.Touches.{Turn, Fails, Rests, Does, whole, storing, walk}
-use Rattle.beats.specs.OneTurn.{roomFor, turn, Drawing}
+use Rattle.touches.specs.Touches.{Turn, Fails, Rests, Does, whole, allowed, walk, store}
+use Rattle.turns.specs.OneTurn.{roomFor, turn, Drawing}
 use Rattle.endings.specs.declared.Ending.{Ending}
 use Rattle.endings.specs.declared.Ending.the-variants.{Failed}
 use Rattle.endings.specs.declared.Halt.{Halt}
 use Rattle.endings.specs.declared.Halt.the-variants.{Goes, Ends}
-use Rattle.endings.specs.Endings.{stored, halted}
-use Rattle.control_sequence.specs.ControlWords.{nextWord, Left as Words, follow, onTurn, obeyed}
+use Rattle.endings.specs.Endings.{halted}
+use Rattle.control_sequence.specs.ControlWords.{nextWord, ObeyedLeft, follow, onTurn, obey}
 use Rattle.control_sequence.proofs.Bare.{Bare, next-bare, turn-control, reached}
 use Rattle.runs.specs.declared.Ahead.{Ahead}
-use Rattle.runs.specs.Ahead.{Left, leaves, afterMoves, aheadBy, ahead}
+use Rattle.runs.specs.Ahead.{AheadLeft, leaves, afterMoves, aheadBy, makeAhead}
 use Rattle.runs.specs.Runs.{ended, run}
 use Rattle.runs.proofs.Loop.{Far, length-drawn, fails, goes, stops}
 
 -- a move for whose point there is room is the turn's beat
 moves-turn : (l : Loan) (m : List ℕ) (room : ℕ) (r : Registers) (v : Move) → nextMove (r .motion) (r .base .mode) (r .base .scale) ≡ Going v →
     leb (length (points (displaced (r .base) v .lit))) room ≡ true → turn l room r m ≡ Does (whole (displaced (r .base) v))
-unfolding turn walk storing roomFor pick
+unfolding turn walk allowed roomFor pick
 moves-turn l m room r v e t = rw (e, t)
 
 -- NO MORE IS LEFT THAN WAS GIVEN
@@ -60,22 +60,22 @@ moves-left (suc k) r ps place = by (λ r ps place. moves-left k r ps place) (nex
         onMove (sequence k) (suc k) r ps place v .sequence .left ≤ suc k
     by ih Still = omega arith
     by ih (Going v) =
-        pick-case (λ (s : Moves). s .sequence .left ≤ suc k) _
+        pick-case (λ (s : SequenceLeft). s .sequence .left ≤ suc k) _
         (λ _. omega (arith, ih (displaced (r .base) v .registers) (sets ps place (points (displaced (r .base) v .lit))) (place + length (points (displaced (r .base) v .lit)))))
         (λ _. omega arith)
 
-words-left : (n : ℕ) (l : Loan) (b : Base) (m : List ℕ) → obeyed n l b m .obeyed .left ≤ n
-unfolding obeyed
+words-left : (n : ℕ) (l : Loan) (b : Base) (m : List ℕ) → obey n l b m .obeyed .left ≤ n
+unfolding obey
 words-left zero l b m = omega arith
 words-left (suc k) l b m =
-    pick-case (λ (w : Words). w .obeyed .left ≤ suc k) _ (λ _. omega arith) (λ _. by (λ b m. words-left k l b m) (walk l m (nextWord b)))
+    pick-case (λ (w : ObeyedLeft). w .obeyed .left ≤ suc k) _ (λ _. omega arith) (λ _. by (λ b m. words-left k l b m) (walk l m (nextWord b)))
   where
-    by : ((b : Base) (m : List ℕ) → obeyed k l b m .obeyed .left ≤ k) → (t : Turn) → onTurn (obeyed k l) k b m t .obeyed .left ≤ suc k
+    by : ((b : Base) (m : List ℕ) → obey k l b m .obeyed .left ≤ k) → (t : Turn) → onTurn (obey k l) k b m t .obeyed .left ≤ suc k
     by ih (Fails why) = omega arith
     by ih (Rests resting) = omega arith
-    by ih (Does c) = on (ih (c .registers .base) (stored (c .stores) m)) (halted (c .stop))
+    by ih (Does c) = on (ih (c .registers .base) (store (c .stores) m)) (halted (c .stop))
       where
-        on : obeyed k l (c .registers .base) (stored (c .stores) m) .obeyed .left ≤ k → (x : Halt) → follow (obeyed k l) k m c x .obeyed .left ≤ suc k
+        on : obey k l (c .registers .base) (store (c .stores) m) .obeyed .left ≤ k → (x : Halt) → follow (obey k l) k m c x .obeyed .left ≤ suc k
         on h Goes = omega arith
         on h (Ends ending) = omega arith
 
@@ -87,37 +87,37 @@ module _ (l : Loan) (fair : Fair l) (m₀ ps₀ : List ℕ) (k : ℕ) (r₀ : Re
   -- PLAIN MOVES
 
   -- how far the run has come with them, in data state
-  abbrev Moved : List ℕ → Moves → Type 0
-  Moved m s =
+  abbrev MovesCome : List ℕ → SequenceLeft → Type 0
+  MovesCome m s =
       Head m (s .points) (s .sequence .registers) (k - (s .sequence .left + 1)) (s .sequence .place)
       × (s .sequence .registers .base .datastate ≡ true)
 
   moves-stay : (j : ℕ) (m ps : List ℕ) (r : Registers) (b n : ℕ) → Head m ps r b n → r .base .datastate ≡ true → k - b ≡ suc j →
-      Moved m (record { sequence = record { registers = r; place = n; left = j }; points = ps })
+      MovesCome m (record { sequence = record { registers = r; place = n; left = j }; points = ps })
   moves-stay j m ps r b n h d e =
       let q : b ≡ k - (j + 1) = omega (arith, h .spent) in
       (subst (λ (t : ℕ). Head m ps r t n) q h, d)
 
   moves-made : (j : ℕ) (m ps : List ℕ) (r : Registers) (b n : ℕ) → Head m ps r b n → r .base .datastate ≡ true → k - b ≡ suc j →
-      Moved m (sequence j r ps n)
+      MovesCome m (sequence j r ps n)
   unfolding sequence halted
   moves-made zero m ps r b n h d e = moves-stay zero m ps r b n h d e
   moves-made (suc j) m ps r b n h d e = by (λ ps r b n. moves-made j m ps r b n) (nextMove (r .motion) (r .base .mode) (r .base .scale)) refl
     where
-      by : ((ps : List ℕ) (r : Registers) (b n : ℕ) → Head m ps r b n → r .base .datastate ≡ true → k - b ≡ suc j → Moved m (sequence j r ps n)) →
-          (v : Moving) → nextMove (r .motion) (r .base .mode) (r .base .scale) ≡ v → Moved m (onMove (sequence j) (suc j) r ps n v)
+      by : ((ps : List ℕ) (r : Registers) (b n : ℕ) → Head m ps r b n → r .base .datastate ≡ true → k - b ≡ suc j → MovesCome m (sequence j r ps n)) →
+          (v : Moving) → nextMove (r .motion) (r .base .mode) (r .base .scale) ≡ v → MovesCome m (onMove (sequence j) (suc j) r ps n v)
       by ih Still q = moves-stay (suc j) m ps r b n h d e
       by ih (Going v) q =
-          pick-case (Moved m) (plain (r .base) v && leb (n + length (points (displaced (r .base) v .lit))) (length ps))
+          pick-case (MovesCome m) (plain (r .base) v && leb (n + length (points (displaced (r .base) v .lit))) (length ps))
           (λ t.
           let p = both (plain (r .base) v) _ t in
           let c = displaced (r .base) v in
           let fit : length (points (c .lit)) ≤ length ps₀ - n = omega (arith, leb-true (n + length (points (c .lit))) (length ps) (p .1), length-drawn h) in
           let q′ = moves-turn l m (length ps₀ - n) r v q (le-leb _ _ fit) in
-          let on : halted (c .stop) ≡ Goes = ap (λ (q : MovedBeat). halted (q .stop)) (plainly (r .base) v (p .0)) in
+          let on : halted (c .stop) ≡ Goes = ap (λ (q : Outcome). halted (q .stop)) (plainly (r .base) v (p .0)) in
           ih (sets ps n (points (c .lit))) (c .registers) (b + 1) (n + length (points (c .lit)))
           (goes h (omega arith) fair q′ refl refl refl on)
-          (ap (λ (q : MovedBeat). q .registers .base .datastate) (plainly (r .base) v (p .0)) ∙ d)
+          (ap (λ (q : Outcome). q .registers .base .datastate) (plainly (r .base) v (p .0)) ∙ d)
           (omega arith))
           (λ _. moves-stay (suc j) m ps r b n h d e)
 
@@ -128,49 +128,49 @@ module _ (l : Loan) (fair : Fair l) (m₀ ps₀ : List ℕ) (k : ℕ) (r₀ : Re
   Come m ps r b n Goes = Head m ps r b n
   Come m ps r b n (Ends ending) = Far l m₀ ps₀ k r₀ m ps r b n (ended r m ending)
 
-  abbrev Obeyed : List ℕ → ℕ → Words → Type 0
-  Obeyed ps n w =
+  abbrev WordsCome : List ℕ → ℕ → ObeyedLeft → Type 0
+  WordsCome ps n w =
       Come (w .memory) ps (record { base = w .obeyed .base; motion = Nothing }) (k - w .obeyed .left) n (w .obeyed .halt)
 
   words-stay : (j : ℕ) (m ps : List ℕ) (c : Base) (b n : ℕ) (x : Halt) → Come m ps (record { base = c; motion = Nothing }) b n x → b ≤ k → k - b ≡ j →
-      Obeyed ps n (record { obeyed = record { base = c; left = j; halt = x }; memory = m })
+      WordsCome ps n (record { obeyed = record { base = c; left = j; halt = x }; memory = m })
   words-stay j m ps c b n x h s e =
       let q : b ≡ k - j = omega arith in subst (λ (t : ℕ). Come m ps (record { base = c; motion = Nothing }) t n x) q h
 
   -- a control word obeyed, and how the sequence goes on behind it
   act-obeyed : (j : ℕ) (m ps : List ℕ) (c : Base) (b n : ℕ) → Head m ps (record { base = c; motion = Nothing }) b n → k - b ≡ suc j →
       (a : Act) → turn l (length ps₀ - n) (record { base = c; motion = Nothing }) m ≡ Does a → a .lit ≡ Dark → a .registers .motion ≡ Nothing →
-      (Head (stored (a .stores) m) ps (record { base = a .registers .base; motion = Nothing }) (b + 1) n → Obeyed ps n (obeyed j l (a .registers .base) (stored (a .stores) m))) →
-      (x : Halt) → halted (a .stop) ≡ x → Obeyed ps n (follow (obeyed j l) j m a x)
+      (Head (store (a .stores) m) ps (record { base = a .registers .base; motion = Nothing }) (b + 1) n → WordsCome ps n (obey j l (a .registers .base) (store (a .stores) m))) →
+      (x : Halt) → halted (a .stop) ≡ x → WordsCome ps n (follow (obey j l) j m a x)
   act-obeyed j m ps c b n h e a q dark still ih Goes p =
-      ih (subst (λ (t : Motion). Head (stored (a .stores) m) ps (record { base = a .registers .base; motion = t }) (b + 1) n) still
+      ih (subst (λ (t : Motion). Head (store (a .stores) m) ps (record { base = a .registers .base; motion = t }) (b + 1) n) still
       (goes h (omega arith) fair q refl (ap (λ (t : Lit). sets ps n (points t)) (sym dark)) (omega (arith, ap (λ (t : Lit). length (points t)) dark)) p))
   act-obeyed j m ps c b n h e a q dark still ih (Ends ending) p =
-      words-stay j (stored (a .stores) m) ps (a .registers .base) (b + 1) n (Ends ending)
-      (subst (λ (t : Motion). Come (stored (a .stores) m) ps (record { base = a .registers .base; motion = t }) (b + 1) n (Ends ending)) still
+      words-stay j (store (a .stores) m) ps (a .registers .base) (b + 1) n (Ends ending)
+      (subst (λ (t : Motion). Come (store (a .stores) m) ps (record { base = a .registers .base; motion = t }) (b + 1) n (Ends ending)) still
       (stops h (omega arith) fair q refl (ap (λ (t : Lit). sets ps n (points t)) (sym dark)) (omega (arith, ap (λ (t : Lit). length (points t)) dark)) p))
       (omega arith)
       (omega arith)
 
-  words-obeyed : (j : ℕ) (m ps : List ℕ) (c : Base) (b n : ℕ) → Head m ps (record { base = c; motion = Nothing }) b n → k - b ≡ j → Obeyed ps n (obeyed j l c m)
-  unfolding obeyed
+  words-obeyed : (j : ℕ) (m ps : List ℕ) (c : Base) (b n : ℕ) → Head m ps (record { base = c; motion = Nothing }) b n → k - b ≡ j → WordsCome ps n (obey j l c m)
+  unfolding obey
   words-obeyed zero m ps c b n h e = words-stay zero m ps c b n Goes h (h .spent) e
   words-obeyed (suc j) m ps c b n h e =
-      pick-case (Obeyed ps n) (c .datastate || c .request) (λ _. words-stay (suc j) m ps c b n Goes h (h .spent) e)
+      pick-case (WordsCome ps n) (c .datastate || c .request) (λ _. words-stay (suc j) m ps c b n Goes h (h .spent) e)
       (λ t.
       let f = neither (c .datastate) (c .request) t in
       by (λ m c b. words-obeyed j m ps c b n) (walk l m (nextWord c)) (turn-control l m (length ps₀ - n) c (f .0) (f .1)) (next-bare l m c))
     where
-      by : ((m : List ℕ) (c : Base) (b : ℕ) → Head m ps (record { base = c; motion = Nothing }) b n → k - b ≡ j → Obeyed ps n (obeyed j l c m)) →
-          (t : Turn) → turn l (length ps₀ - n) (record { base = c; motion = Nothing }) m ≡ t → Bare t → Obeyed ps n (onTurn (obeyed j l) j c m t)
+      by : ((m : List ℕ) (c : Base) (b : ℕ) → Head m ps (record { base = c; motion = Nothing }) b n → k - b ≡ j → WordsCome ps n (obey j l c m)) →
+          (t : Turn) → turn l (length ps₀ - n) (record { base = c; motion = Nothing }) m ≡ t → Bare t → WordsCome ps n (onTurn (obey j l) j c m t)
       by ih (Fails why) q g = words-stay (suc j) m ps c b n (Ends (Failed why)) (fails h (omega arith) q) (h .spent) e
       by ih (Rests resting) q g = absurd g
       by ih (Does a) q g =
-          act-obeyed j m ps c b n h e a q (g .0) (g .1) (λ p. ih (stored (a .stores) m) (a .registers .base) (b + 1) p (omega arith)) (halted (a .stop)) refl
+          act-obeyed j m ps c b n h e a q (g .0) (g .1) (λ p. ih (store (a .stores) m) (a .registers .base) (b + 1) p (omega arith)) (halted (a .stop)) refl
 
   -- BOTH
 
-  pub record Made (b : ℕ) (a : Left) : Type 0 where
+  pub record Made (b : ℕ) (a : AheadLeft) : Type 0 where
     pub comes : Come (a .memory) (a .points) (a .ahead .registers) (k - a .ahead .left) (a .ahead .place) (a .ahead .halt)
     pub drawing : a .ahead .halt ≡ Goes → 0 < a .ahead .left → Drawing (a .ahead .registers)
     pub left : a .ahead .left ≤ k - b
@@ -197,7 +197,7 @@ module _ (l : Loan) (fair : Fair l) (m₀ ps₀ : List ℕ) (k : ℕ) (r₀ : Re
 
   -- what the code made ahead of a turn
   pub made : {m ps : List ℕ} {b n : ℕ} {r : Registers} → Head m ps r b n → b < k → {a : Ahead} {m′ ps′ : List ℕ} →
-      leaves a m′ ps′ ≡ ahead (k - b) l r m ps n → Made b (leaves a m′ ps′)
+      leaves a m′ ps′ ≡ makeAhead (k - b) l r m ps n → Made b (leaves a m′ ps′)
   made {m} {ps} {b} {n} {r} h lt e = subst (Made b) (sym e) (made-by m ps b n (r .base) (r .motion) h lt)
 
   -- by whether the run goes on from there

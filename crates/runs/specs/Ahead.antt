@@ -8,32 +8,32 @@ use Rattle.registers.specs.declared.Motion.the-variants.{Nothing, Line, Bytes}
 use Rattle.registers.specs.declared.Registers.{Registers}
 use Rattle.loan.specs.declared.Loan.{Loan}
 use Rattle.endings.specs.declared.Halt.the-variants.{Goes}
-use Rattle.move_sequence.specs.PlainMoves.{sequence, Left as Moves}
-use Rattle.control_sequence.specs.ControlWords.{obeyed, Left as Words}
+use Rattle.move_sequence.specs.PlainMoves.{sequence, SequenceLeft}
+use Rattle.control_sequence.specs.ControlWords.{obey, ObeyedLeft}
 use Rattle.runs.specs.declared.Ahead.{Ahead}
 
 -- what is left, with the memory and the point list
-pub record Left : Type 0 where
+pub record AheadLeft : Type 0 where
   pub ahead : Ahead
   pub memory : List ℕ
   pub points : List ℕ
 
-abbrev pub leaves : Ahead → List ℕ → List ℕ → Left
+abbrev pub leaves : Ahead → List ℕ → List ℕ → AheadLeft
 leaves a m ps = record { ahead = a; memory = m; points = ps }
 
-abbrev pub afterWords : Words → List ℕ → ℕ → Left
+abbrev pub afterWords : ObeyedLeft → List ℕ → ℕ → AheadLeft
 afterWords w ps place =
     leaves (record { registers = record { base = w .obeyed .base; motion = Nothing }; place = place; left = w .obeyed .left; halt = w .obeyed .halt }) (w .memory) ps
 
 -- a beat is left to the turn behind them
-abbrev pub afterMoves : Moves → List ℕ → Left
+abbrev pub afterMoves : SequenceLeft → List ℕ → AheadLeft
 afterMoves s m =
     leaves (record { registers = s .sequence .registers; place = s .sequence .place; left = s .sequence .left + 1; halt = Goes }) m (s .points)
 
-abbrev pub aheadBy : ℕ → Loan → Base → List ℕ → List ℕ → ℕ → Motion → Left
-aheadBy n l b m ps place Nothing = afterWords (obeyed n l b m) ps place
+abbrev pub aheadBy : ℕ → Loan → Base → List ℕ → List ℕ → ℕ → Motion → AheadLeft
+aheadBy n l b m ps place Nothing = afterWords (obey n l b m) ps place
 aheadBy n l b m ps place (Line line) = afterMoves (sequence (n - 1) (record { base = b; motion = Line line }) ps place) m
 aheadBy n l b m ps place (Bytes bytes) = afterMoves (sequence (n - 1) (record { base = b; motion = Bytes bytes }) ps place) m
 
-abbrev pub ahead : ℕ → Loan → Registers → List ℕ → List ℕ → ℕ → Left
-ahead n l r m ps place = aheadBy n l (r .base) m ps place (r .motion)
+abbrev pub makeAhead : ℕ → Loan → Registers → List ℕ → List ℕ → ℕ → AheadLeft
+makeAhead n l r m ps place = aheadBy n l (r .base) m ps place (r .motion)

@@ -6,14 +6,14 @@ use lib.ListN.{length, drop}
 use Rattle.registers.specs.declared.Registers.{Registers}
 use Rattle.loan.specs.declared.Loan.{Loan}
 use Rattle.touches.specs.declared.Act.{Act}
-use Rattle.touches.specs.Touches.{Turn, Fails, Rests, Does}
+use Rattle.touches.specs.Touches.{Turn, Fails, Rests, Does, store}
 use Rattle.beam.specs.DataWords.{points}
-use Rattle.beats.specs.OneTurn.{turn}
+use Rattle.turns.specs.OneTurn.{turn}
 use Rattle.endings.specs.declared.Ending.{Ending}
 use Rattle.endings.specs.declared.Ending.the-variants.{BudgetSpent, Failed}
 use Rattle.endings.specs.declared.Halt.{Halt}
 use Rattle.endings.specs.declared.Halt.the-variants.{Goes, Ends}
-use Rattle.endings.specs.Endings.{stored, rested, restEnding, halted}
+use Rattle.endings.specs.Endings.{rested, restEnding, halted}
 use Rattle.runs.specs.declared.Answer.the-variants.{Ended}
 use Rattle.runs.specs.declared.Ran.{Ran}
 
@@ -40,8 +40,8 @@ abbrev pub Go : Type 0
 Go = ℕ → Registers → List ℕ → Run
 
 abbrev pub follow : Go → ℕ → List ℕ → Act → Halt → Run
-follow go room m c Goes = go (room - length (points (c .lit))) (c .registers) (stored (c .stores) m)
-follow go room m c (Ends ending) = ended (c .registers) (stored (c .stores) m) ending
+follow go room m c Goes = go (room - length (points (c .lit))) (c .registers) (store (c .stores) m)
+follow go room m c (Ends ending) = ended (c .registers) (store (c .stores) m) ending
 
 -- endings 16, 17, 18 change nothing and leave running on; 13 and 15 make no beat
 abbrev pub onward : Go → ℕ → Registers → List ℕ → Turn → Run
@@ -57,16 +57,16 @@ run (suc k) l room r m = onward (run k l) room r m (turn l room r m)
 -- WHAT A CALL LEAVES
 
 -- what a call leaves
-pub record Left : Type 0 where
+pub record CallLeft : Type 0 where
   pub ran : Ran
   pub memory : List ℕ
   pub points : List ℕ
 
-abbrev pub leaves : Ran → List ℕ → List ℕ → Left
+abbrev pub leaves : Ran → List ℕ → List ℕ → CallLeft
 leaves t m ps = record { ran = t; memory = m; points = ps }
 
 -- the first entries of the point list are filled in order from place 0; the rest stay
-abbrev pub left : Run → List ℕ → Left
+abbrev pub left : Run → List ℕ → CallLeft
 left f ps =
     record {
       ran = record { registers = f .registers; answer = Ended (f .ending) (f .beats) (length (f .lit)) };

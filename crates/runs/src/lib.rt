@@ -6,8 +6,8 @@ ghost use lib.Seq.{sets};
 ghost use Rattle.registers.specs.Registers.{Good};
 ghost use Rattle.loan.specs.Loan.{Fair};
 ghost use Rattle.beam.specs.DataWords.{points as pointsOf};
-ghost use Rattle.runs.specs.Ahead.{ahead, leaves as aheadLeaves};
-ghost use Rattle.runs.specs.Runs.{run as runOf, left, leaves};
+ghost use Rattle.runs.specs.Ahead.{makeAhead, leaves as aheadLeaves};
+ghost use Rattle.runs.specs.Runs.{run, left, leaves};
 use beam::Lit;
 use endings::Ending;
 use endings::Halt;
@@ -60,7 +60,7 @@ fn make_ahead(
     limit: u32,
 ) -> Ahead
     requires { ⌜ (length (now memory) ≡ 32768) × Fair l × Good r × (place ≤ length (now points)) × (1 ≤ limit) ⌝ }
-    ensures { λ a. ⌜ aheadLeaves a (now (memory .exit)) (now (points .exit)) ≡ ahead limit l r (now (memory .entry)) (now (points .entry)) place ⌝ }
+    ensures { λ a. ⌜ aheadLeaves a (now (memory .exit)) (now (points .exit)) ≡ makeAhead limit l r (now (memory .entry)) (now (points .entry)) place ⌝ }
 {
     let motion = r.motion;
     let b = r.base;
@@ -104,9 +104,9 @@ fn make_ahead(
 }
 
 // The run of an accepted call on a running display.
-pub fn go(r: Registers, l: Loan, memory: &mut [u16], points: &mut [u32], budget: u32) -> Ran
+pub fn run(r: Registers, l: Loan, memory: &mut [u16], points: &mut [u32], budget: u32) -> Ran
     requires { ⌜ (length (now memory) ≡ 32768) × Fair l × Good r ⌝ }
-    ensures { λ t. ⌜ leaves t (now (memory .exit)) (now (points .exit)) ≡ left (runOf budget l (length (now (points .entry))) r (now (memory .entry))) (now (points .entry)) ⌝ }
+    ensures { λ t. ⌜ leaves t (now (memory .exit)) (now (points .exit)) ≡ left (run budget l (length (now (points .entry))) r (now (memory .entry))) (now (points .entry)) ⌝ }
 {
     let mut current = r;
     let mut beats: u32 = 0;
@@ -133,7 +133,7 @@ pub fn go(r: Registers, l: Loan, memory: &mut [u16], points: &mut [u32], budget:
                 answer: Answer::Ended(Ending::BudgetSpent, beats, place),
             };
         }
-        match beats::one_turn(current, l, &memory[..], points.len() - place) {
+        match turns::turn(current, l, &memory[..], points.len() - place) {
             Turn::Fails(why) => {
                 return Ran {
                     registers: current,
@@ -148,13 +148,13 @@ pub fn go(r: Registers, l: Loan, memory: &mut [u16], points: &mut [u32], budget:
                     answer: Answer::Ended(ending, beats, place),
                 };
             }
-            Turn::Moves(moved) => {
-                let spot = moved.lit;
+            Turn::Storeless(outcome) => {
+                let spot = outcome.lit;
                 place = put(spot, points, place);
-                let further = moved.registers;
+                let further = outcome.registers;
                 current = further;
                 beats += 1;
-                let halt = moved.stop;
+                let halt = outcome.stop;
                 match endings::halted(halt) {
                     Halt::Goes => {}
                     Halt::Ends(ending) => {
@@ -168,7 +168,7 @@ pub fn go(r: Registers, l: Loan, memory: &mut [u16], points: &mut [u32], budget:
             Turn::Does(act) => {
                 let stores = act.stores;
                 let lit = act.lit;
-                endings::store(stores, memory);
+                touches::store(stores, memory);
                 place = put(lit, points, place);
                 let next = act.registers;
                 current = next;

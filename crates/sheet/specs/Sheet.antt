@@ -13,7 +13,7 @@ use Rattle.registers.specs.With.{withX, withY, withConditions, withAddress, wit
 use Rattle.loan.specs.Loan.{all}
 use Rattle.endings.specs.Endings.{endingNumber}
 use Rattle.runs.specs.Runs.{Run}
-use Rattle.machine.specs.Calls.{entered}
+use Rattle.calls.specs.Calls.{entered}
 
 -- WHAT A ROW CAN ASK
 

@@ -5,13 +5,13 @@ use native.Mathlib.Omega.{arith}
 use borrow.Author.Needs.{needs}
 use Rattle.touches.specs.Touches.{said, walk}
 use Rattle.touches.proofs.Walk.{walk-not}
-use Rattle.control_sequence.specs.ControlWords.{nextWord, obeyed}
+use Rattle.control_sequence.specs.ControlWords.{nextWord, obey}
 use Rattle.control_sequence.proofs.Obeying.{Far, left-some, worded, ends, fails, rests, fine, goes, stops}
 use Rattle.control_sequence.proofs.obey.Statement.{statement}
 use Rattle.control_sequence.proofs.obey.Tie as tie
 
 abbrev Inv-loop : tie.InvT-loop
-Inv-loop l memory₀ limit base₀ left₀ memory base left = Far limit l base₀ memory₀ left base memory (obeyed left l base memory)
+Inv-loop l memory₀ limit base₀ left₀ memory base left = Far limit l base₀ memory₀ left base memory (obey left l base memory)
 
 abbrev μ-loop : tie.MeasureT-loop
 μ-loop l memory₀ limit base₀ left₀ memory base left = left
@@ -19,7 +19,7 @@ abbrev μ-loop : tie.MeasureT-loop
 -- the turn that the code took is the definition's
 turned : (c : tie.After-control-beat Inv-loop μ-loop) →
     walk (c .before .before .before .before .before .before .before .before .before .before .before .before .before .args .l) (c .before .before .before .before .before .before .before .before .before .before .before .loop .memory) (nextWord (c .before .before .before .before .before .before .before .before .before .before .before .loop .base)) ≡ said (c .control-beat .result)
-turned c = worded _ _ (c .before .before .before .before .before .before .before .before .before .before .before .loop .base) (c .control-beat .result) (c .before .before .before .before .before .before .fetch .ensures) (c .before .before .before .before .word .given .1) (c .before .before .unheld .ensures) (c .control-beat .ensures)
+turned c = worded _ _ (c .before .before .before .before .before .before .before .before .before .before .before .loop .base) (c .control-beat .result) (c .before .before .before .before .before .before .fetched .ensures) (c .before .before .before .before .word .given .1) (c .before .before .unheld .ensures) (c .control-beat .ensures)
 
 pub obey-spec : {M : Type 1} → statement M
 obey-spec =
@@ -28,10 +28,10 @@ obey-spec =
     Inv-loop
     μ-loop
     (λ c. record { size = c .before .pre .0; good = c .before .pre .2; whole = refl })
-    (λ c κs. (c .before .before .before .before .loop .inv .size, c .before .before .before .before .before .before .pre .1))
+    (λ c κs. search needs)
     (λ c. search needs)
     (λ c κs. search needs)
-    (λ c κs. (c .before .before .before .before .before .before .before .before .before .before .loop .inv .size, c .before .before .before .before .before .before .before .before .before .before .before .before .pre .1))
+    (λ c κs. search needs)
     (λ c. search needs)
     (λ c. c .before .before .before .before .before .before .before .before .before .before .before .before .before .before .loop .inv .size ∙ sym (c .before .before .before .before .before .before .before .before .before .before .before .before .before .before .before .before .pre .0))
     (λ c. sym (fails (c .before .before .before .before .before .before .before .before .before .before .before .before .before .before .loop .inv) (c .before .before .before .before .before .before .before .before .before .before .before .if1 .taken) (turned (c .before .before .before) ∙ ap said (c .before .why .given .1))))
@@ -43,12 +43,12 @@ obey-spec =
     (λ c κs. search needs)
     (λ c. search needs)
     (λ c. omega (arith, left-some (c .before .before .before .before .before .before .before .before .before .before .before .before .before .before .before .before .before .before .before .loop .inv) (c .before .before .before .before .before .before .before .before .before .before .before .before .before .before .before .before .if1 .taken)))
-    (λ c. goes (c .before .before .before .before .before .before .before .before .before .before .before .before .before .before .before .before .before .before .before .loop .inv) (c .before .before .before .before .before .before .before .before .before .before .before .before .before .before .before .before .if1 .taken) (c .before .before .before .before .before .before .before .before .before .before .before .before .before .before .before .before .before .before .before .before .before .pre .1) (turned (c .before .before .before .before .before .before .before .before) ∙ ap said (c .before .before .before .before .before .before .moved .given .1)) refl (sym (c .before .before .halted .ensures) ∙ c .enum-told2 .given .1))
+    (λ c. goes (c .before .before .before .before .before .before .before .before .before .before .before .before .before .before .before .before .before .before .before .loop .inv) (c .before .before .before .before .before .before .before .before .before .before .before .before .before .before .before .before .if1 .taken) (c .before .before .before .before .before .before .before .before .before .before .before .before .before .before .before .before .before .before .before .before .before .pre .1) (turned (c .before .before .before .before .before .before .before .before) ∙ ap said (c .before .before .before .before .before .before .outcome .given .1)) refl (sym (c .before .before .halted .ensures) ∙ c .enum-told2 .given .1))
     (λ c. search needs)
     (λ c. c .before .before .before .before .before .before .before .before .before .before .before .before .before .before .before .before .before .before .before .before .loop .inv .size ∙ sym (c .before .before .before .before .before .before .before .before .before .before .before .before .before .before .before .before .before .before .before .before .before .before .pre .0))
-    (λ c. sym (stops (c .before .before .before .before .before .before .before .before .before .before .before .before .before .before .before .before .before .before .before .before .loop .inv) (c .before .before .before .before .before .before .before .before .before .before .before .before .before .before .before .before .before .if1 .taken) (c .before .before .before .before .before .before .before .before .before .before .before .before .before .before .before .before .before .before .before .before .before .before .pre .1) (turned (c .before .before .before .before .before .before .before .before .before) ∙ ap said (c .before .before .before .before .before .before .before .moved .given .1)) refl (sym (c .before .before .before .halted .ensures) ∙ c .before .ending .given .1) .whole))
+    (λ c. sym (stops (c .before .before .before .before .before .before .before .before .before .before .before .before .before .before .before .before .before .before .before .before .loop .inv) (c .before .before .before .before .before .before .before .before .before .before .before .before .before .before .before .before .before .if1 .taken) (c .before .before .before .before .before .before .before .before .before .before .before .before .before .before .before .before .before .before .before .before .before .before .pre .1) (turned (c .before .before .before .before .before .before .before .before .before) ∙ ap said (c .before .before .before .before .before .before .before .outcome .given .1)) refl (sym (c .before .before .before .halted .ensures) ∙ c .before .ending .given .1) .whole))
     (λ c. search needs)
-    (λ c κs. rw (c .before .before .before .before .before .before .before .before .before .before .before .before .before .before .before .loop .inv .size) (fine (c .before .before .before .before .before .before .before .before .before .before .before .before .before .before .before .loop .inv) (c .before .before .before .before .before .before .before .before .before .before .before .before .if1 .taken) (c .before .before .before .before .before .before .before .before .before .before .before .before .before .before .before .before .before .pre .1) (turned (c .before .before .before .before) ∙ ap said (c .before .before .act .given .1)) .1))
+    (λ c κs. search needs)
     (λ c. left-some (c .before .before .before .before .before .before .before .before .before .before .before .before .before .before .before .before .before .before .before .before .loop .inv) (c .before .before .before .before .before .before .before .before .before .before .before .before .before .before .before .before .before .if1 .taken))
     (λ c κs. search needs)
     (λ c. search needs)
@@ -59,6 +59,6 @@ obey-spec =
     (λ c. sym (stops (c .before .before .before .before .before .before .before .before .before .before .before .before .before .before .before .before .before .before .before .before .before .before .before .before .loop .inv) (c .before .before .before .before .before .before .before .before .before .before .before .before .before .before .before .before .before .before .before .before .before .if1 .taken) (c .before .before .before .before .before .before .before .before .before .before .before .before .before .before .before .before .before .before .before .before .before .before .before .before .before .before .pre .1) (turned (c .before .before .before .before .before .before .before .before .before .before .before .before .before) ∙ ap said (c .before .before .before .before .before .before .before .before .before .before .before .act .given .1)) (c .before .before .before .before .before .before .before .before .store .ensures) (sym (c .before .before .before .halted2 .ensures) ∙ c .before .ending2 .given .1) .whole))
     (λ c. search needs)
     (λ c. c .before .before .before .before .before .before .before .before .loop .inv .size ∙ sym (c .before .before .before .before .before .before .before .before .before .before .pre .0))
-    (λ c. sym (fails (c .before .before .before .before .before .before .before .before .loop .inv) (c .before .before .before .before .before .if1 .taken) (walk-not _ _ _ _ (c .before .before .before .fetch .ensures) (c .before .why2 .given .1))))
+    (λ c. sym (fails (c .before .before .before .before .before .before .before .before .loop .inv) (c .before .before .before .before .before .if1 .taken) (walk-not _ _ _ _ (c .before .before .before .fetched .ensures) (c .before .why2 .given .1))))
     (λ c. c .before .before .before .loop .inv .size ∙ sym (c .before .before .before .before .before .pre .0))
     (λ c. sym (ends (c .before .before .before .loop .inv) (c .if1 .left))))

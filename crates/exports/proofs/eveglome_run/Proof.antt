@@ -18,8 +18,8 @@ eveglome-run-spec =
     (λ c κs. search needs)
     (λ c κs. search needs)
     (λ c κs. let k = c .before .before .before .before .before .before .before .before in
-    rw (c .before .before .numbered .ensures) (subst Few (sym (k .run .ensures)) (answer-points _ _ _ _ _)))
+    rw (c .before .before .numbered .ensures) (subst Few (sym (k .call .ensures)) (answer-points _ _ _ _ _)))
     (λ c. search needs)
     (λ c. search needs)
     (λ c. let k = c .before .before .before .before .before .before .before .before .before in
-    rw (c .told .ensures, c .before .leave-run .ensures, c .before .before .before .numbered .ensures, ← k .before .before .before .loan-of .ensures, ← k .before .before .before .before .before .registers-of .ensures) (ap (ranAs (now (k .before .before .before .before .before .before .before .before .before .args .registers))) (k .run .ensures))))
+    rw (c .told .ensures, c .before .leave-run .ensures, c .before .before .before .numbered .ensures, ← k .before .before .before .loan-of .ensures, ← k .before .before .before .before .before .registers-of .ensures) (ap (ranAs (now (k .before .before .before .before .before .before .before .before .before .args .registers))) (k .call .ensures))))

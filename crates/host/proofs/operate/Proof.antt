@@ -5,13 +5,13 @@ use native.Mathlib.Nat.{mod-eq-of-lt}
 use native.Mathlib.Omega.{arith}
 use borrow.Author.Tests.{le-leb, lt-leb}
 use Rattle.words.specs.Words.{pick}
-use Rattle.host.specs.HostOperations.{operated, limit}
+use Rattle.host.specs.HostOperations.{operate, limit}
 use Rattle.host.proofs.Operands.{limit-small}
 use Rattle.host.proofs.operate.Statement.{statement}
 use Rattle.host.proofs.operate.Tie as tie
 
 pub operate-spec : {M : Type 1} → statement M
-unfolding operated pick
+unfolding operate pick
 operate-spec =
     tie.close
     (tie.spec

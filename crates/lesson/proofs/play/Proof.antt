@@ -18,4 +18,4 @@ play-spec =
     (λ c κs. search needs)
     (λ c κs. search needs)
     (λ c. search needs)
-    (λ c. (rw (shown _ _ (c .before .before .before .before .before .before .before .before .before .before .before .before .before .before .begun .ensures) (rw (c .before .before .before .before .before .before .before .before .before .before .before .before .before .before .before .room .ensures) at (c .before .before .before .before .before .before .before .before .before .before .before .run .ensures)) (c .before .before .before .before .before .before .before .before .before .numbered .ensures)) (behind _ _ _ (c .before .before .before .before .before .before .put-points .ensures) (c .before .before .put-ending .ensures)), short _ _ (c .before .before .before .before .before .before .before .before .before .before .before .before .before .before .begun .ensures) (rw (c .before .before .before .before .before .before .before .before .before .before .before .before .before .before .before .room .ensures) at (c .before .before .before .before .before .before .before .before .before .before .before .run .ensures)) (c .before .before .before .before .before .before .before .before .before .numbered .ensures) (c .before .before .before .before .before .before .before .before .before .before .points2 .given))))
+    (λ c. (rw (shown _ _ (c .before .before .before .before .before .before .before .before .before .before .before .before .before .before .begun .ensures) (rw (c .before .before .before .before .before .before .before .before .before .before .before .before .before .before .before .room .ensures) at (c .before .before .before .before .before .before .before .before .before .before .before .call .ensures)) (c .before .before .before .before .before .before .before .before .before .numbered .ensures)) (behind _ _ _ (c .before .before .before .before .before .before .put-points .ensures) (c .before .before .put-ending .ensures)), short _ _ (c .before .before .before .before .before .before .before .before .before .before .before .before .before .before .begun .ensures) (rw (c .before .before .before .before .before .before .before .before .before .before .before .before .before .before .before .room .ensures) at (c .before .before .before .before .before .before .before .before .before .before .before .call .ensures)) (c .before .before .before .before .before .before .before .before .before .numbered .ensures) (c .before .before .before .before .before .before .before .before .before .before .points2 .given))))

@@ -1,0 +1,50 @@
+-- Section 'Refused calls and run endings' of 01: the whole call of a run with its refusals, and this paper's numbers for its answer. Assumes nothing.
+use Prim.Native.Nat.{ℕ}
+use mathlib.Core.Path.{_≡_}
+use mathlib.Core.Bool.{true}
+use mathlib.Core.List.{List}
+use lib.Dec.{eqb, leb}
+use lib.ListN.{length}
+use Rattle.words.specs.Words.{pick}
+use Rattle.registers.specs.declared.Registers.{Registers}
+use Rattle.registers.specs.Registers.{inRange}
+use Rattle.loan.specs.declared.Loan.{Loan}
+use Rattle.loan.specs.Loan.{fairLoan}
+use Rattle.beam.specs.DataWords.{points}
+use Rattle.endings.specs.declared.Ending.the-variants.{NotRunning}
+use Rattle.endings.specs.Endings.{endingNumber}
+use Rattle.runs.specs.declared.Answer.{Answer}
+use Rattle.runs.specs.declared.Answer.the-variants.{Refused, Ended}
+use Rattle.runs.specs.declared.Ran.{Ran}
+use Rattle.calls.specs.declared.Numbers.{Numbers}
+use Rattle.runs.specs.Runs.{Run, ended, run, CallLeft, leaves, left}
+
+-- if not running at entry: 10
+unfoldable pub entered : ℕ → Loan → ℕ → Registers → List ℕ → Run
+entered k l room r m = pick (r .base .running) (run k l room r m) (ended r m NotRunning)
+
+-- a refusal returns the registers as given and stores nothing
+abbrev pub refusedRun : Registers → ℕ → Ran
+refusedRun r number = record { registers = r; answer = Refused number }
+
+-- runs test 1, 2, 3, 4; the first that applies is given, and none otherwise
+unfoldable pub call : ℕ → Loan → Registers → List ℕ → List ℕ → CallLeft
+call budget l r m ps =
+    pick (eqb (length m) 32768)
+    (pick (leb budget 65535)
+    (pick (fairLoan l)
+    (pick (inRange r) (left (entered budget l (length ps) r m) ps) (leaves (refusedRun r 4) m ps))
+    (leaves (refusedRun r 3) m ps))
+    (leaves (refusedRun r 2) m ps))
+    (leaves (refusedRun r 1) m ps)
+
+-- no accepted call leaves registers that 4 refuses (01, Registers)
+abbrev pub KeepsInRange : Type 0
+KeepsInRange =
+    (budget : ℕ) (l : Loan) (r : Registers) (m ps : List ℕ) → inRange r ≡ true → inRange (call budget l r m ps .ran .registers) ≡ true
+
+-- THIS PAPER'S NUMBERS for each answer: ending, word, beats and points. A run's word is 0
+
+abbrev pub numbered : Answer → Numbers
+numbered (Refused number) = record { ending = number; word = 0; beats = 0; points = 0 }
+numbered (Ended ending beats points) = record { ending = endingNumber ending; word = 0; beats = beats; points = points }

@@ -1,0 +1,92 @@
+// The whole call of a run: any registers, any lent memory, any loan, any budget and any point list, refused or run.
+ghost use mathlib.Core.Path.{_≡_};
+ghost use lib.ListN.{length};
+ghost use Rattle.registers.specs.Registers.{Good};
+ghost use Rattle.loan.specs.Loan.{Fair};
+ghost use Rattle.runs.specs.Runs.{left, leaves};
+ghost use Rattle.calls.specs.Calls.{refusedRun, entered, call, numbered, KeepsInRange};
+use endings::Ending;
+use loan::Loan;
+use registers::Registers;
+use runs::Answer;
+use runs::Ran;
+
+// This paper's numbers for an answer. A run's word is 0.
+pub struct Numbers {
+    pub ending: u8,
+    pub word: u16,
+    pub beats: u32,
+    pub points: usize,
+}
+
+// An accepted call: a display that is not running makes no turn.
+fn enter(r: Registers, l: Loan, memory: &mut [u16], points: &mut [u32], budget: u32) -> Ran
+    requires { ⌜ (length (now memory) ≡ 32768) × Fair l × Good r ⌝ }
+    ensures { λ t. ⌜ leaves t (now (memory .exit)) (now (points .exit)) ≡ left (entered budget l (length (now (points .entry))) r (now (memory .entry))) (now (points .entry)) ⌝ }
+{
+    if r.base.running {
+        runs::run(r, l, memory, points, budget)
+    } else {
+        Ran {
+            registers: r,
+            answer: Answer::Ended(Ending::NotRunning, 0, 0),
+        }
+    }
+}
+
+fn refused(r: Registers, number: u8) -> Ran
+    ensures { λ t. ⌜ t ≡ refusedRun r number ⌝ }
+{
+    Ran {
+        registers: r,
+        answer: Answer::Refused(number),
+    }
+}
+
+// A run: refused by the first of 1, 2, 3, 4 that applies, with nothing stored, or run.
+pub fn call(r: Registers, l: Loan, memory: &mut [u16], points: &mut [u32], budget: u32) -> Ran
+    ensures { λ t. ⌜ leaves t (now (memory .exit)) (now (points .exit)) ≡ call budget l r (now (memory .entry)) (now (points .entry)) ⌝ }
+{
+    if memory.len() == 32768 {
+        if budget <= 65535 {
+            if loan::fair_loan(l) {
+                if registers::in_range(r) {
+                    enter(r, l, memory, points, budget)
+                } else {
+                    refused(r, 4)
+                }
+            } else {
+                refused(r, 3)
+            }
+        } else {
+            refused(r, 2)
+        }
+    } else {
+        refused(r, 1)
+    }
+}
+
+// The numbers that document 01 gives an answer.
+pub fn numbered(answer: Answer) -> Numbers
+    ensures { λ r. ⌜ r ≡ numbered answer ⌝ }
+{
+    match answer {
+        Answer::Refused(number) => Numbers {
+            ending: number,
+            word: 0,
+            beats: 0,
+            points: 0,
+        },
+        Answer::Ended(ending, beats, points) => Numbers {
+            ending: endings::ending_number(ending),
+            word: 0,
+            beats,
+            points,
+        },
+    }
+}
+
+// No run leaves registers that refusal 4 refuses. It does nothing: its promise is the theorem, so that a check names it.
+pub fn keeps_in_range()
+    ensures { λ _. ⌜ KeepsInRange ⌝ }
+{}

@@ -1,0 +1,94 @@
+-- A turn keeps registers in range, stores inside memory, and lights a point only where there is room. The commands' own laws are in the crates below: here
+-- the dispatch is looked at once, and the walk not at all. Assumes nothing.
+use Prim.Native.Nat.{ℕ, _≤_}
+use mathlib.Core.Path.{_≡_, refl}
+use mathlib.Core.Bool.{Bool, true, false, _&&_, _||_}
+use mathlib.Core.List.{List}
+use native.Mathlib.Omega.{arith}
+use lib.Dec.{eqb, leb}
+use lib.ListN.{length}
+use borrow.Author.Tests.{leb-true, eqb-true, eqb-false}
+use Rattle.words.proofs.Laws.{pick-case}
+use Rattle.registers.specs.declared.Base.{Base}
+use Rattle.registers.specs.declared.Registers.{Registers}
+use Rattle.registers.specs.Registers.{GoodBase, Good}
+use Rattle.beam.specs.declared.Outcome.{Outcome}
+use Rattle.moves.specs.declared.Moving.{Moving}
+use Rattle.moves.specs.declared.Moving.the-variants.{Still, Going}
+use Rattle.moves.specs.DataWords.{nextMove}
+use Rattle.moves.proofs.Kept.{displaced-good}
+use Rattle.drawing.proofs.Kept.{point-good, increment-good, vector-good, short-vector-good, graphplot-good}
+use Rattle.loan.specs.declared.Loan.{Loan}
+use Rattle.loan.specs.Loan.{Fair}
+use Rattle.touches.specs.declared.Act.{Act}
+use Rattle.touches.specs.Touches.{Turn, Fails, Rests, Does, walk}
+use Rattle.touches.proofs.Fine.{GoodBeat, Inside, FineWalk, walk-fine}
+use Rattle.control_beats.proofs.Kept.{control-good}
+use Rattle.beam.specs.DataWords.{points}
+use Rattle.turns.specs.OneTurn.{longBeat, dataBeat, unheld, commandBeat, unusable, idleBeat, beatBy, beat, roomFor, turn}
+
+-- THE DISPATCH
+
+-- data state in a mode that is usable
+usable : (d x y : Bool) → d ≡ true → (d && (x || y)) ≡ false → (x ≡ false) × (y ≡ false)
+usable true false false d u = (refl, refl)
+usable true false true d u = (refl, u)
+usable true true y d u = (u, cc)
+usable false x y d u = (cc, cc)
+
+-- the end of hold makes no mode unusable
+held-unusable : (b : Base) → unusable b ≡ false → unusable (unheld b) ≡ false
+unfolding unusable
+held-unusable b u = u
+
+data-good : (b : Base) (w : ℕ) → GoodBase b → b .datastate ≡ true → unusable b ≡ false → w ≤ 4095 → GoodBeat (dataBeat b w)
+unfolding dataBeat longBeat unusable
+data-good b w g d u h =
+    let n = usable (b .datastate) (eqb (b .mode) 5) (eqb (b .mode) 7) d u in
+    pick-case GoodBeat (eqb (b .mode) 1) (λ e. increment-good b w g d (eqb-true _ _ e) h)
+    (λ e1. pick-case GoodBeat (eqb (b .mode) 4)
+    (λ e. let four = eqb-true (b .mode) 4 e in short-vector-good b w g d (omega arith) (omega arith))
+    (λ e4. pick-case GoodBeat (eqb (b .mode) 6) (λ _. graphplot-good b w g)
+    (λ e6 v _. pick-case (λ (q : Outcome). Good (q .registers)) (eqb (b .mode) 0) (λ _. point-good b w v g)
+    (λ e0.
+    let t : (2 ≤ b .mode) × (b .mode ≤ 4) = omega (arith, eqb-false (b .mode) 0 e0, eqb-false (b .mode) 1 e1, eqb-false (b .mode) 4 e4, eqb-false (b .mode) 6 e6, eqb-false (b .mode) 5 (n .0), eqb-false (b .mode) 7 (n .1), g .mode) in
+    vector-good b w v g d (t .0) (t .1)))))
+
+idle-good : (b : Base) → GoodBase b → GoodBeat (idleBeat b)
+unfolding idleBeat commandBeat
+idle-good b g =
+    pick-case GoodBeat (b .request) (λ _. tt)
+    (λ _. pick-case GoodBeat (unusable b) (λ _. tt)
+    (λ u w h. pick-case GoodBeat (b .datastate) (λ d. data-good (unheld b) w g d (held-unusable b u) h) (λ _. control-good (unheld b) w g)))
+
+by-good : (r : Registers) → Good r → (v : Moving) → nextMove (r .motion) (r .base .mode) (r .base .scale) ≡ v → GoodBeat (beatBy (r .base) v)
+by-good r g Still e = idle-good (r .base) (g .base)
+by-good r g (Going m) e = displaced-good r m g e
+
+beat-good : (r : Registers) → Good r → GoodBeat (beat r)
+beat-good r g = by-good r g _ refl
+
+-- THE TURN
+
+pub record Fine (room : ℕ) (c : Act) : Type 0 where
+  pub good : Good (c .registers)
+  pub inside : Inside 32768 (c .stores)
+  pub fits : length (points (c .lit)) ≤ room
+
+abbrev pub FineTurn : ℕ → Turn → Type 0
+FineTurn room (Fails why) = Unit {0}
+FineTurn room (Rests resting) = Unit {0}
+FineTurn room (Does c) = Fine room c
+
+room-fine : (room : ℕ) (t : Turn) → FineWalk t → FineTurn room (roomFor room t)
+unfolding roomFor
+room-fine room (Fails why) h = tt
+room-fine room (Rests resting) h = tt
+room-fine room (Does c) h =
+    pick-case (FineTurn room) (leb (length (points (c .lit))) room)
+    (λ e. record { good = h .0; inside = h .1; fits = leb-true _ _ e })
+    (λ _. tt)
+
+pub turn-fine : (l : Loan) → Fair l → (room : ℕ) (r : Registers) → Good r → (m : List ℕ) → FineTurn room (turn l room r m)
+unfolding turn
+turn-fine l f room r g m = room-fine room (walk l m (beat r)) (walk-fine l f m (beat r) (beat-good r g))

@@ -1,0 +1,30 @@
+-- How the walk of a beat goes on at the tests of an idle display and of a command, taken one by one, and which display is idle. Assumes nothing.
+use Prim.Native.Nat.{ℕ}
+use mathlib.Core.Path.{_≡_, refl, sym, ap₂}
+use mathlib.Core.Bool.{Bool}
+use mathlib.Core.List.{List}
+use Rattle.registers.specs.declared.Base.{Base}
+use Rattle.registers.specs.declared.Motion.{Motion}
+use Rattle.registers.specs.declared.Motion.the-variants.{Nothing, Line, Bytes}
+use Rattle.moves.specs.declared.Moving.the-variants.{Still}
+use Rattle.moves.specs.DataWords.{nextMove}
+use Rattle.loan.specs.declared.Loan.{Loan}
+use Rattle.touches.specs.Touches.{walk}
+use Rattle.turns.specs.OneTurn.{unheld, commandBy, commandBeat, unusable, idleBy, idleBeat}
+
+module _ (l : Loan) (m : List ℕ) (b : Base) where
+  pub walk-idle : {request wrong : Bool} → b .request ≡ request → unusable b ≡ wrong → walk l m (idleBeat b) ≡ walk l m (idleBy b request wrong)
+  unfolding idleBeat
+  walk-idle p q = ap₂ (λ (t u : Bool). walk l m (idleBy b t u)) p q
+
+  pub walk-command : (w : ℕ) {c : Base} {datastate : Bool} → c ≡ unheld b → b .datastate ≡ datastate →
+      walk l m (commandBeat b w) ≡ walk l m (commandBy c w datastate)
+  unfolding commandBeat
+  walk-command w e p = ap₂ (λ (z : Base) (t : Bool). walk l m (commandBy z w t)) (sym e) p
+
+-- a display whose motion makes no move has none
+pub still : (m : Motion) (mode scale : ℕ) → nextMove m mode scale ≡ Still → m ≡ Nothing
+unfolding nextMove
+still Nothing mode scale e = refl
+still (Line t) mode scale e = cc
+still (Bytes t) mode scale e = cc

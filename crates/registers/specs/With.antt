@@ -1,4 +1,5 @@
 -- The registers with one of them set: `withX b v` is b with v for x and every other register as it was. One definition a register, in the struct's order.
+-- Printed by tests/with from the struct Base in src/lib.rt; after a change there: tests/with > crates/registers/specs/With.antt
 use Prim.Native.Nat.{ℕ}
 use mathlib.Core.Bool.{Bool}
 use Rattle.addresses.specs.declared.DisplayAddress.{DisplayAddress}

@@ -5,16 +5,15 @@ use mathlib.Core.Bool.{Bool, true, false}
 use mathlib.Core.List.{List}
 use native.Mathlib.Omega.{arith}
 use lib.Dec.{eqb, leb}
-use lib.ListN.{length, getD}
+use lib.ListN.{length}
 use lib.Seq.{take-at}
 use borrow.Author.Tests.{leb-true, le-leb}
 use Rattle.words.specs.Words.{pick, _and_}
 use Rattle.words.proofs.Laws.{pick-case}
-use Rattle.addresses.specs.declared.DisplayAddress.{DisplayAddress}
 use Rattle.registers.specs.declared.Registers.{Registers}
 use Rattle.registers.specs.Registers.{inRange}
 use Rattle.loan.specs.declared.Loan.{Loan}
-use Rattle.loan.specs.Loan.{mayStore, fairLoan, all}
+use Rattle.loan.specs.Loan.{fairLoan, all}
 use Rattle.loan.proofs.Touches.{fair}
 use Rattle.touches.specs.Touches.{Turn, Fails, Rests, Does, store}
 use Rattle.beam.specs.DataWords.{points}
@@ -26,9 +25,9 @@ use Rattle.endings.specs.declared.Halt.the-variants.{Goes, Ends}
 use Rattle.endings.specs.Endings.{halted}
 use Rattle.runs.specs.Runs.{Run, Go, follow, onward, run, CallLeft, leaves, left}
 use Rattle.calls.specs.Calls.{entered, refusedRun, call}
-use Rattle.fence.specs.Demand3.{Agree, Same, fenced, spent, SameCall}
+use Rattle.fence.specs.Demand3.{Agree, Same, Kept, fenced, AtFence, SameCall, spent}
 use Rattle.fence.proofs.Agreeing.{entered-agrees}
-use Rattle.fence.proofs.Keeping.{entered-keeps}
+use Rattle.fence.proofs.Keeping.{same-keeps, entered-keeps}
 use Rattle.fence.proofs.Freeing.{entered-all, entered-stopped}
 
 -- what holds of the run where all tests pass, and of every refusal, holds of the call
@@ -108,11 +107,10 @@ module _ (l : Loan) where
   unfolding entered
   entered-within k room r m = pick-case (λ (f : Run). f .beats ≤ k) (r .base .running) (λ _. run-within k room r m) (λ _. omega arith)
 
-pub calls-keep : (k : ℕ) (l : Loan) (r : Registers) (m ps : List ℕ) (a : DisplayAddress) → mayStore l a ≡ false →
-    getD (call k l r m ps .memory) (a .0) 0 ≡ getD m (a .0) 0
-calls-keep k l r m ps a e =
-    call-case k l r m ps (λ (t : CallLeft). getD (t .memory) (a .0) 0 ≡ getD m (a .0) 0)
-    (λ _ _ _ _. entered-keeps l k (length ps) r m a e) (λ _. refl)
+pub calls-keep : (k : ℕ) (l : Loan) (r : Registers) (m ps : List ℕ) → Kept l m (call k l r m ps .memory)
+calls-keep k l r m ps =
+    call-case k l r m ps (λ (t : CallLeft). Kept l m (t .memory)) (λ _ _ _ _. entered-keeps l k (length ps) r m)
+    (λ _. same-keeps l m)
 
 -- a refusal is no ending
 neither : {A : Type 0} {number b p : ℕ} {e : Ending} → Refused number ≡ Ended e b p → A
@@ -128,14 +126,18 @@ calls-free k l r m ps {e} {b} {p} =
     (λ _ q h. neither q)
 
 pub calls-stopped : (k : ℕ) (l : Loan) (r : Registers) (m ps : List ℕ) {e : Ending} {b p : ℕ} →
-    call k l r m ps .ran .answer ≡ Ended e b p → fenced e ≡ true → call b all r m ps ≡ spent (call k l r m ps) b p
+    call k l r m ps .ran .answer ≡ Ended e b p → fenced e ≡ true →
+    (call b all r m ps ≡ spent (call k l r m ps) b p)
+    × AtFence l (length ps - p) (call k l r m ps .ran .registers) (call k l r m ps .memory) e
 calls-stopped k l r m ps {e} {b} {p} =
-    call-case k l r m ps (λ (t : CallLeft). t .ran .answer ≡ Ended e b p → fenced e ≡ true → call b all r m ps ≡ spent t b p)
+    call-case k l r m ps
+    (λ (t : CallLeft). t .ran .answer ≡ Ended e b p → fenced e ≡ true →
+    (call b all r m ps ≡ spent t b p) × AtFence l (length ps - p) (t .ran .registers) (t .memory) e)
     (λ s u f g q h.
     let w : entered k l (length ps) r m .ending ≡ e = cc in
     let beats : entered k l (length ps) r m .beats ≡ b = cc in
     let lit : length (entered k l (length ps) r m .lit) ≡ p = cc in
     let i = entered-stopped l (fair l f) k (length ps) r m (rw w h) in
     let few : leb b 65535 ≡ true = le-leb b 65535 (omega (arith, beats, entered-within l k (length ps) r m, leb-true k 65535 u)) in
-    accepted b all r m ps s few all-fair g ∙ rw (← beats, ← lit) (ap (λ (z : Run). left z ps) (i .before)))
+    (accepted b all r m ps s few all-fair g ∙ rw (← beats, ← lit) (ap (λ (z : Run). left z ps) (i .0)), rw (← w, ← lit) (i .1)))
     (λ _ q h. neither q)

@@ -1,5 +1,5 @@
--- A run that does not end at the fence is the run with all of memory lent, and one that does is that run with the budget of the beats it made. Assumes
--- nothing.
+-- A run that does not end at the fence is the run with all of memory lent, and one that does is that run with the budget of the beats it made, before a touch
+-- that the loan does not allow. Assumes nothing.
 use Prim.Native.Nat.{ℕ, zero, suc, _-_}
 use mathlib.Core.Path.{_≡_, refl, sym, ap, _∙_}
 use mathlib.Core.Bool.{Bool, true, false}
@@ -21,19 +21,18 @@ use Rattle.touches.specs.declared.Resting.{Resting}
 use Rattle.touches.specs.declared.Resting.the-variants.{External, Unusable}
 use Rattle.touches.specs.declared.Stores.{Stores}
 use Rattle.touches.specs.declared.Stores.the-variants.{Nowhere, Two}
-use Rattle.touches.specs.declared.Why.{Why}
 use Rattle.touches.specs.declared.Why.the-variants.{Fetch, Store, Wide, Full}
 use Rattle.touches.specs.Touches.{Beat, fetch, act, rest, Turn, Fails, Rests, Does, fetched, onGot, allowed, walk, store}
 use Rattle.beam.specs.DataWords.{points}
 use Rattle.turns.specs.OneTurn.{beat, roomFor, turn}
 use Rattle.endings.specs.declared.Ending.{Ending}
-use Rattle.endings.specs.declared.Ending.the-variants.{NotRunning, InternalStop, EdgeStop, Failed}
+use Rattle.endings.specs.declared.Ending.the-variants.{NotRunning, InternalStop, EdgeStop}
 use Rattle.endings.specs.declared.Halt.{Halt}
 use Rattle.endings.specs.declared.Halt.the-variants.{Goes, Ends}
-use Rattle.endings.specs.Endings.{restEnding, halted}
+use Rattle.endings.specs.Endings.{restEnding, halted, whyNumber, endingNumber}
 use Rattle.runs.specs.Runs.{Run, ended, made, Go, follow, onward, run}
 use Rattle.calls.specs.Calls.{entered}
-use Rattle.fence.specs.Demand3.{fenced, Outside, cut, AtFence}
+use Rattle.fence.specs.Demand3.{fenced, cut, AtFence}
 
 -- a turn t under the loan and u with all lent: t was stopped by the loan, or they are the same
 abbrev Freed : Loan → Turn → Turn → Type 0
@@ -46,13 +45,13 @@ Freed l (Does c) u = Does c ≡ u
 
 -- a beat that stops the display, and a rest, end no run at the fence
 halted-free : (s : Stop) (ending : Ending) → halted s ≡ Ends ending → fenced ending ≡ false
-unfolding halted fenced
+unfolding halted fenced endingNumber
 halted-free None ending e = let z : _≡_ {A = ℕ} 0 1 = cc in absurd (omega arith)
 halted-free Internal ending e = let q : InternalStop ≡ ending = cc in rw (← q)
 halted-free Edge ending e = let q : EdgeStop ≡ ending = cc in rw (← q)
 
 rested-free : (resting : Resting) → fenced (restEnding resting) ≡ false
-unfolding restEnding fenced
+unfolding restEnding fenced endingNumber
 rested-free External = refl
 rested-free Unusable = refl
 
@@ -60,13 +59,9 @@ rested-free Unusable = refl
 never : {A : Type 0} (t : Bool) → t ≡ true → t ≡ false → A
 never t p q = let z : true ≡ false = sym p ∙ q in let y : _≡_ {A = ℕ} 0 1 = cc in absurd (omega arith)
 
--- AtFence of the turns alone, before it is asked whether the display runs
-record Stopped (l : Loan) (room : ℕ) (r : Registers) (m : List ℕ) (g : Run) : Type 0 where
-  why : Why
-  ending : g .ending ≡ Failed why
-  stopped : turn l (room - length (g .lit)) (g .registers) (g .memory) ≡ Fails why
-  outside : Outside l why
-  before : run (g .beats) all room r m ≡ cut g
+-- a run g that ended at the fence, and the run with all of memory lent and the budget of its beats
+abbrev Stopped : Loan → ℕ → Run → Run → Type 0
+Stopped l room g other = (other ≡ cut g) × AtFence l (room - length (g .lit)) (g .registers) (g .memory) (g .ending)
 
 module _ (l : Loan) (f : Fair l) where
   allowed-freed : (c : Act) (s : Stores) → Freed l (allowed l c s) (allowed all c s)
@@ -114,7 +109,7 @@ module _ (l : Loan) (f : Fair l) where
   onward-all : (go go′ : Go) → ((room : ℕ) (r : Registers) (m : List ℕ) → fenced (go room r m .ending) ≡ false → go room r m ≡ go′ room r m) →
       (room : ℕ) (r : Registers) (m : List ℕ) (t u : Turn) → Freed l t u → fenced (onward go room r m t .ending) ≡ false →
       onward go room r m t ≡ onward go′ room r m u
-  unfolding fenced
+  unfolding fenced endingNumber whyNumber
   onward-all go go′ ih room r m (Fails (Fetch a)) u e h = never true refl h
   onward-all go go′ ih room r m (Fails (Store a)) u e h = never true refl h
   onward-all go go′ ih room r m (Fails (Wide a)) u e h = rw (← e)
@@ -143,60 +138,51 @@ module _ (l : Loan) (f : Fair l) where
       by false h = refl
 
   onward-stopped : (k : ℕ) →
-      ((room : ℕ) (r : Registers) (m : List ℕ) → fenced (run k l room r m .ending) ≡ true → Stopped l room r m (run k l room r m)) →
+      ((room : ℕ) (r : Registers) (m : List ℕ) → fenced (run k l room r m .ending) ≡ true →
+      Stopped l room (run k l room r m) (run (run k l room r m .beats) all room r m)) →
       (room : ℕ) (r : Registers) (m : List ℕ) (t : Turn) → turn l room r m ≡ t → Freed l t (turn all room r m) →
-      fenced (onward (run k l) room r m t .ending) ≡ true → Stopped l room r m (onward (run k l) room r m t)
-  unfolding fenced run
+      fenced (onward (run k l) room r m t .ending) ≡ true →
+      Stopped l room (onward (run k l) room r m t) (run (onward (run k l) room r m t .beats) all room r m)
+  unfolding fenced endingNumber whyNumber run
   onward-stopped k ih room r m (Fails (Fetch a)) q o e =
-      record { why = Fetch a; ending = refl; stopped = rw sub-zero q; outside = o; before = refl }
+      (refl, record { why = Fetch a; ending = refl; stopped = rw sub-zero q; outside = o })
   onward-stopped k ih room r m (Fails (Store a)) q o e =
-      record { why = Store a; ending = refl; stopped = rw sub-zero q; outside = o; before = refl }
+      (refl, record { why = Store a; ending = refl; stopped = rw sub-zero q; outside = o })
   onward-stopped k ih room r m (Fails (Wide a)) q o e = never false e refl
   onward-stopped k ih room r m (Fails Full) q o e = never false e refl
   onward-stopped k ih room r m (Rests resting) q o e = never _ e (rested-free resting)
   onward-stopped k ih room r m (Does c) q o e = by (halted (c .stop)) refl e
     where
       by : (s : Halt) → halted (c .stop) ≡ s → fenced (follow (run k l) room m c s .ending) ≡ true →
-          Stopped l room r m (made (points (c .lit)) (follow (run k l) room m c s))
+          Stopped l room (made (points (c .lit)) (follow (run k l) room m c s))
+          (run (suc (follow (run k l) room m c s .beats)) all room r m)
       by Goes p e =
           let i = ih (room - length (points (c .lit))) (c .registers) (store (c .stores) m) e in
           let s : room - length (points (c .lit) ++ run k l (room - length (points (c .lit))) (c .registers) (store (c .stores) m) .lit)
           ≡ room - length (points (c .lit)) - length (run k l (room - length (points (c .lit))) (c .registers) (store (c .stores) m) .lit) =
           rw length-append (omega arith)
-          in
-          record {
-            why = i .why;
-            ending = i .ending;
-            stopped = rw s (i .stopped);
-            outside = i .outside;
-            before =
-                rw (← o)
+          in (
+            rw (← o)
                 (ap (made (points (c .lit)))
                 (ap (follow (run (run k l (room - length (points (c .lit))) (c .registers) (store (c .stores) m) .beats) all) room m c) p
-                ∙ i .before));
-          }
+                ∙ i .0)),
+            rw s (i .1),
+          )
       by (Ends ending) p e = never _ e (halted-free (c .stop) ending p)
 
-  run-stopped : (k room : ℕ) (r : Registers) (m : List ℕ) → fenced (run k l room r m .ending) ≡ true → Stopped l room r m (run k l room r m)
-  unfolding run fenced
+  run-stopped : (k room : ℕ) (r : Registers) (m : List ℕ) → fenced (run k l room r m .ending) ≡ true →
+      Stopped l room (run k l room r m) (run (run k l room r m .beats) all room r m)
+  unfolding run fenced endingNumber
   run-stopped zero room r m e = never false e refl
   run-stopped (suc k) room r m e = onward-stopped k (run-stopped k) room r m (turn l room r m) refl (turn-freed room r m) e
 
   pub entered-stopped : (k room : ℕ) (r : Registers) (m : List ℕ) → fenced (entered k l room r m .ending) ≡ true →
-      AtFence l room r m (entered k l room r m)
-  unfolding entered pick fenced
-  entered-stopped k room r m = by (r .base .running) refl
+      Stopped l room (entered k l room r m) (entered (entered k l room r m .beats) all room r m)
+  unfolding entered pick fenced endingNumber
+  entered-stopped k room r m = by (r .base .running)
     where
-      by : (t : Bool) → r .base .running ≡ t → fenced (pick t (run k l room r m) (ended r m NotRunning) .ending) ≡ true →
-          AtFence l room r m (pick t (run k l room r m) (ended r m NotRunning))
-      by true p e =
-          let i = run-stopped k room r m e in
-          record {
-            why = i .why;
-            ending = i .ending;
-            stopped = i .stopped;
-            outside = i .outside;
-            before =
-                ap (λ (t : Bool). pick t (run (run k l room r m .beats) all room r m) (ended r m NotRunning)) p ∙ i .before;
-          }
-      by false p e = never false e refl
+      by : (t : Bool) → fenced (pick t (run k l room r m) (ended r m NotRunning) .ending) ≡ true →
+          Stopped l room (pick t (run k l room r m) (ended r m NotRunning))
+          (pick t (run (pick t (run k l room r m) (ended r m NotRunning) .beats) all room r m) (ended r m NotRunning))
+      by true e = run-stopped k room r m e
+      by false e = never false e refl

@@ -1,10 +1,11 @@
--- No word outside the list range changes: whatever a turn stores, the loan allows, and a store elsewhere leaves a word as it was. Assumes nothing.
+-- No word outside the list range changes: whatever a turn stores, the loan allows, and a store elsewhere leaves a word as it was, and the memory's length.
+-- Assumes nothing.
 use Prim.Native.Nat.{ℕ, zero, suc, _-_}
 use mathlib.Core.Path.{_≡_, refl, sym, ap, _∙_}
 use mathlib.Core.Bool.{true, false, true≢false}
 use mathlib.Core.List.{List}
 use lib.Dec.{leb}
-use lib.ListN.{length, getD, set}
+use lib.ListN.{length, set, length-set}
 use lib.Seq.{getD-set-other}
 use Rattle.words.proofs.Laws.{pick-case}
 use Rattle.addresses.specs.declared.DisplayAddress.{DisplayAddress}
@@ -25,6 +26,7 @@ use Rattle.endings.specs.declared.Halt.the-variants.{Goes, Ends}
 use Rattle.endings.specs.Endings.{halted}
 use Rattle.runs.specs.Runs.{Run, Go, follow, onward, run}
 use Rattle.calls.specs.Calls.{entered}
+use Rattle.fence.specs.Demand3.{Kept}
 
 -- the loan allows what is stored
 abbrev Lent : Loan → Stores → Type 0
@@ -59,39 +61,42 @@ module _ (l : Loan) where
   room-lent room (Rests resting) h = tt
   room-lent room (Does c) h = pick-case (LentTurn l) (leb (length (points (c .lit))) room) (λ _. h) (λ _. tt)
 
-  set-keeps : (m : List ℕ) (a i : DisplayAddress) (v : ℕ) → mayStore l a ≡ false → mayStore l i ≡ true →
-      getD (set m (i .0) v) (a .0) 0 ≡ getD m (a .0) 0
-  set-keeps m a i v e h =
-      getD-set-other m (i .0) (a .0) v 0 (λ p. true≢false (sym h ∙ ap (λ (n : ℕ). mayStore l (address n)) (sym p) ∙ e))
+  -- no store keeps, and so do two that keep, one after the other
+  pub same-keeps : (m : List ℕ) → Kept l m m
+  same-keeps m = record { size = refl; words = λ _ _. refl }
 
-  store-keeps : (s : Stores) (m : List ℕ) (a : DisplayAddress) → mayStore l a ≡ false → Lent l s →
-      getD (store s m) (a .0) 0 ≡ getD m (a .0) 0
-  store-keeps Nowhere m a e h = refl
-  store-keeps (Two at word next second) m a e h =
-      set-keeps (set m (at .0) word) a next second e (h .1) ∙ set-keeps m a at word e (h .0)
+  then-keeps : {m n o : List ℕ} → Kept l m n → Kept l n o → Kept l m o
+  then-keeps h g = record { size = g .size ∙ h .size; words = λ a e. g .words a e ∙ h .words a e }
 
-  onward-keeps : (go : Go) (a : DisplayAddress) → mayStore l a ≡ false →
-      ((room : ℕ) (r : Registers) (m : List ℕ) → getD (go room r m .memory) (a .0) 0 ≡ getD m (a .0) 0) →
-      (room : ℕ) (r : Registers) (m : List ℕ) (t : Turn) → LentTurn l t →
-      getD (onward go room r m t .memory) (a .0) 0 ≡ getD m (a .0) 0
-  onward-keeps go a e ih room r m (Fails why) h = refl
-  onward-keeps go a e ih room r m (Rests resting) h = refl
-  onward-keeps go a e ih room r m (Does c) h = by (halted (c .stop)) ∙ store-keeps (c .stores) m a e h
+  set-keeps : (m : List ℕ) (i : DisplayAddress) (v : ℕ) → mayStore l i ≡ true → Kept l m (set m (i .0) v)
+  set-keeps m i v h =
+      record {
+        size = length-set m (i .0) v;
+        words = λ a e. getD-set-other m (i .0) (a .0) v 0 (λ p. true≢false (sym h ∙ ap (λ (n : ℕ). mayStore l (address n)) (sym p) ∙ e));
+      }
+
+  store-keeps : (s : Stores) (m : List ℕ) → Lent l s → Kept l m (store s m)
+  store-keeps Nowhere m h = same-keeps m
+  store-keeps (Two at word next second) m h =
+      then-keeps (set-keeps m at word (h .0)) (set-keeps (set m (at .0) word) next second (h .1))
+
+  onward-keeps : (go : Go) → ((room : ℕ) (r : Registers) (m : List ℕ) → Kept l m (go room r m .memory)) →
+      (room : ℕ) (r : Registers) (m : List ℕ) (t : Turn) → LentTurn l t → Kept l m (onward go room r m t .memory)
+  onward-keeps go ih room r m (Fails why) h = same-keeps m
+  onward-keeps go ih room r m (Rests resting) h = same-keeps m
+  onward-keeps go ih room r m (Does c) h = then-keeps (store-keeps (c .stores) m h) (by (halted (c .stop)))
     where
-      by : (s : Halt) → getD (follow go room m c s .memory) (a .0) 0 ≡ getD (store (c .stores) m) (a .0) 0
+      by : (s : Halt) → Kept l (store (c .stores) m) (follow go room m c s .memory)
       by Goes = ih (room - length (points (c .lit))) (c .registers) (store (c .stores) m)
-      by (Ends ending) = refl
+      by (Ends ending) = same-keeps (store (c .stores) m)
 
-  run-keeps : (k room : ℕ) (r : Registers) (m : List ℕ) (a : DisplayAddress) → mayStore l a ≡ false →
-      getD (run k l room r m .memory) (a .0) 0 ≡ getD m (a .0) 0
+  run-keeps : (k room : ℕ) (r : Registers) (m : List ℕ) → Kept l m (run k l room r m .memory)
   unfolding run turn
-  run-keeps zero room r m a e = refl
-  run-keeps (suc k) room r m a e =
-      onward-keeps (run k l) a e (λ room′ r′ m′. run-keeps k room′ r′ m′ a e) room r m (turn l room r m)
-      (room-lent room (walk l m (beat r)) (walk-lent m (beat r)))
+  run-keeps zero room r m = same-keeps m
+  run-keeps (suc k) room r m =
+      onward-keeps (run k l) (run-keeps k) room r m (turn l room r m) (room-lent room (walk l m (beat r)) (walk-lent m (beat r)))
 
-  pub entered-keeps : (k room : ℕ) (r : Registers) (m : List ℕ) (a : DisplayAddress) → mayStore l a ≡ false →
-      getD (entered k l room r m .memory) (a .0) 0 ≡ getD m (a .0) 0
+  pub entered-keeps : (k room : ℕ) (r : Registers) (m : List ℕ) → Kept l m (entered k l room r m .memory)
   unfolding entered
-  entered-keeps k room r m a e =
-      pick-case (λ (f : Run). getD (f .memory) (a .0) 0 ≡ getD m (a .0) 0) (r .base .running) (λ _. run-keeps k room r m a e) (λ _. refl)
+  entered-keeps k room r m =
+      pick-case (λ (f : Run). Kept l m (f .memory)) (r .base .running) (λ _. run-keeps k room r m) (λ _. same-keeps m)

@@ -4,17 +4,19 @@ use Prim.Native.Nat.{ℕ, _-_}
 use mathlib.Core.Path.{_≡_}
 use mathlib.Core.Bool.{Bool, true, false}
 use mathlib.Core.List.{List}
+use lib.Dec.{eqb}
 use lib.ListN.{length, getD, take}
 use Rattle.addresses.specs.declared.DisplayAddress.{DisplayAddress}
 use Rattle.registers.specs.declared.Registers.{Registers}
 use Rattle.loan.specs.declared.Loan.{Loan}
-use Rattle.loan.specs.Loan.{mayFetch, mayStore, Fair, all}
+use Rattle.loan.specs.Loan.{mayFetch, mayStore, fairLoan, all}
 use Rattle.touches.specs.declared.Why.{Why}
 use Rattle.touches.specs.declared.Why.the-variants.{Fetch, Store, Wide, Full}
 use Rattle.touches.specs.Touches.{Fails}
 use Rattle.turns.specs.OneTurn.{turn}
 use Rattle.endings.specs.declared.Ending.{Ending}
-use Rattle.endings.specs.declared.Ending.the-variants.{NotRunning, BudgetSpent, InternalStop, ExternalStop, EdgeStop, UnusableMode, Failed}
+use Rattle.endings.specs.declared.Ending.the-variants.{BudgetSpent, Failed}
+use Rattle.endings.specs.Endings.{endingNumber}
 use Rattle.runs.specs.declared.Answer.the-variants.{Ended}
 use Rattle.runs.specs.Runs.{Run, CallLeft}
 use Rattle.calls.specs.Calls.{entered, call, numbered}
@@ -31,18 +33,18 @@ pub record Same (l : Loan) (f g : Run) : Type 0 where
   pub lit : f .lit ≡ g .lit
   pub words : Agree l (f .memory) (g .memory)
 
--- a run ends at the fence if its last touch was outside the loan
+-- "no word outside the list range changes" from a memory m to what is left of it, n; nor does the memory grow or shrink
+pub record Kept (l : Loan) (m n : List ℕ) : Type 0 where
+  pub size : length n ≡ length m
+  pub words : (a : DisplayAddress) → mayStore l a ≡ false → getD n (a .0) 0 ≡ getD m (a .0) 0
+
+-- a run ends at the fence if it ends with 16, outside the loan (01, Refused calls and run endings)
 unfoldable pub fenced : Ending → Bool
-fenced NotRunning = false
-fenced BudgetSpent = false
-fenced InternalStop = false
-fenced ExternalStop = false
-fenced EdgeStop = false
-fenced UnusableMode = false
-fenced (Failed (Fetch a)) = true
-fenced (Failed (Store a)) = true
-fenced (Failed (Wide a)) = false
-fenced (Failed Full) = false
+fenced e = eqb (endingNumber e) 16
+
+-- the registers, words and points of a run, with a budget of just its beats
+abbrev pub cut : Run → Run
+cut f = record { registers = f .registers; memory = f .memory; lit = f .lit; beats = f .beats; ending = BudgetSpent }
 
 -- "one the loan doesn't allow"
 abbrev pub Outside : Loan → Why → Type 0
@@ -51,18 +53,13 @@ Outside l (Store a) = mayStore l a ≡ false
 Outside l (Wide a) = ⊥
 Outside l Full = ⊥
 
--- the registers, words and points of a run, with a budget of just its beats
-abbrev pub cut : Run → Run
-cut f = record { registers = f .registers; memory = f .memory; lit = f .lit; beats = f .beats; ending = BudgetSpent }
-
--- "one that ends there after b beats has the registers, words and points of that other run with budget b, and its next beat's first touch that can't be
--- made is one the loan doesn't allow"
-pub record AtFence (l : Loan) (room : ℕ) (r : Registers) (m : List ℕ) (f : Run) : Type 0 where
+-- of the room, registers and memory that are left at an ending: "its next beat's first touch that can't be made is one the loan doesn't allow", and the
+-- ending bears that touch
+pub record AtFence (l : Loan) (room : ℕ) (r : Registers) (m : List ℕ) (e : Ending) : Type 0 where
   pub why : Why
-  pub ending : f .ending ≡ Failed why
-  pub stopped : turn l (room - length (f .lit)) (f .registers) (f .memory) ≡ Fails why
+  pub ending : e ≡ Failed why
+  pub stopped : turn l room r m ≡ Fails why
   pub outside : Outside l why
-  pub before : entered (f .beats) all room r m ≡ cut f
 
 -- what two calls answer alike: the registers and the answer, the lent words, and the points lit
 pub record SameCall (l : Loan) (t u : CallLeft) : Type 0 where
@@ -79,25 +76,32 @@ spent t b p =
       points = t .points;
     }
 
--- DEMAND 3, over every loan, budget, room, registers and memory
+-- DEMAND 3, over every loan, or with `fairLoan` every loan that 3 does not refuse, and every budget, room, registers and memory
 pub record Isolated : Type 0 where
   -- "Take two memories that agree on every word lent, with equal registers, loan, budget and point-list length. Their accepted runs give the same"
   pub agrees : (l : Loan) (k room : ℕ) (r : Registers) (m n : List ℕ) → Agree l m n → Same l (entered k l room r m) (entered k l room r n)
-  -- "no word outside the list range changes in either"
-  pub keeps : (l : Loan) (k room : ℕ) (r : Registers) (m : List ℕ) (a : DisplayAddress) → mayStore l a ≡ false →
-      getD (entered k l room r m .memory) (a .0) 0 ≡ getD m (a .0) 0
+  -- "and no word outside the list range changes in either"
+  pub keeps : (l : Loan) (k room : ℕ) (r : Registers) (m : List ℕ) → Kept l m (entered k l room r m .memory)
   -- "A run that doesn't end at the fence is the run with all of memory lent"
-  pub free : (l : Loan) → Fair l → (k room : ℕ) (r : Registers) (m : List ℕ) → fenced (entered k l room r m .ending) ≡ false →
+  pub free : (l : Loan) → fairLoan l ≡ true → (k room : ℕ) (r : Registers) (m : List ℕ) → fenced (entered k l room r m .ending) ≡ false →
       entered k l room r m ≡ entered k all room r m
-  -- "One that ends there"
-  pub stopped : (l : Loan) → Fair l → (k room : ℕ) (r : Registers) (m : List ℕ) → fenced (entered k l room r m .ending) ≡ true →
-      AtFence l room r m (entered k l room r m)
+  -- "One that ends there after b beats has the registers, words and points of that other run with budget b"
+  pub before : (l : Loan) → fairLoan l ≡ true → (k room : ℕ) (r : Registers) (m : List ℕ) → fenced (entered k l room r m .ending) ≡ true →
+      let f = entered k l room r m in
+      entered (f .beats) all room r m ≡ cut f
+  -- "and its next beat's first touch that can't be made is one the loan doesn't allow"
+  pub stopped : (l : Loan) → fairLoan l ≡ true → (k room : ℕ) (r : Registers) (m : List ℕ) → fenced (entered k l room r m .ending) ≡ true →
+      let f = entered k l room r m in
+      AtFence l (room - length (f .lit)) (f .registers) (f .memory) (f .ending)
   -- the same of whole calls, with two point lists of one length; refused calls answer alike
   pub calls-agree : (k : ℕ) (l : Loan) (r : Registers) (m n ps qs : List ℕ) → Agree l m n → length ps ≡ length qs →
       SameCall l (call k l r m ps) (call k l r n qs)
-  pub calls-keep : (k : ℕ) (l : Loan) (r : Registers) (m ps : List ℕ) (a : DisplayAddress) → mayStore l a ≡ false →
-      getD (call k l r m ps .memory) (a .0) 0 ≡ getD m (a .0) 0
+  pub calls-keep : (k : ℕ) (l : Loan) (r : Registers) (m ps : List ℕ) → Kept l m (call k l r m ps .memory)
   pub calls-free : (k : ℕ) (l : Loan) (r : Registers) (m ps : List ℕ) {e : Ending} {b p : ℕ} →
       call k l r m ps .ran .answer ≡ Ended e b p → fenced e ≡ false → call k l r m ps ≡ call k all r m ps
-  pub calls-stopped : (k : ℕ) (l : Loan) (r : Registers) (m ps : List ℕ) {e : Ending} {b p : ℕ} →
+  pub calls-before : (k : ℕ) (l : Loan) (r : Registers) (m ps : List ℕ) {e : Ending} {b p : ℕ} →
       call k l r m ps .ran .answer ≡ Ended e b p → fenced e ≡ true → call b all r m ps ≡ spent (call k l r m ps) b p
+  pub calls-stopped : (k : ℕ) (l : Loan) (r : Registers) (m ps : List ℕ) {e : Ending} {b p : ℕ} →
+      call k l r m ps .ran .answer ≡ Ended e b p → fenced e ≡ true →
+      let t = call k l r m ps in
+      AtFence l (length ps - p) (t .ran .registers) (t .memory) e

@@ -1,4 +1,5 @@
 -- `fence::isolation` meets its promise: each sentence is proved in a file of its own. Assumes nothing.
+use Rattle.loan.proofs.Touches.{fair}
 use Rattle.fence.proofs.Agreeing.{entered-agrees}
 use Rattle.fence.proofs.Keeping.{entered-keeps}
 use Rattle.fence.proofs.Freeing.{entered-all, entered-stopped}
@@ -13,10 +14,12 @@ isolation-spec =
     (λ c. record {
       agrees = entered-agrees;
       keeps = entered-keeps;
-      free = entered-all;
-      stopped = entered-stopped;
+      free = λ l h. entered-all l (fair l h);
+      before = λ l h k room r m e. entered-stopped l (fair l h) k room r m e .0;
+      stopped = λ l h k room r m e. entered-stopped l (fair l h) k room r m e .1;
       calls-agree = λ k l r m n ps qs h e. calls-agree l m n ps qs h k r e;
       calls-keep = calls-keep;
       calls-free = calls-free;
-      calls-stopped = calls-stopped;
+      calls-before = λ k l r m ps q h. calls-stopped k l r m ps q h .0;
+      calls-stopped = λ k l r m ps q h. calls-stopped k l r m ps q h .1;
     }))

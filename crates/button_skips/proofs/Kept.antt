@@ -4,7 +4,7 @@ use mathlib.Core.Bool.{Bool}
 use native.Mathlib.Omega.{arith}
 use Rattle.words.proofs.Laws.{pick-case}
 use Rattle.registers.specs.declared.Base.{Base}
-use Rattle.registers.specs.Registers.{GoodBase}
+use Rattle.registers.specs.Good.{GoodBase}
 use Rattle.registers.proofs.Setting.{buttons-set}
 use Rattle.skips.proofs.Kept.{skipping-good}
 use Rattle.button_skips.specs.ControlWords.{withByte, buttonSkip, compare}

@@ -7,10 +7,12 @@ use lib.Dec.{eqb, leb}
 use lib.ListN.{length}
 use Rattle.words.proofs.Laws.{pick-case}
 use Rattle.registers.specs.declared.Registers.{Registers}
-use Rattle.registers.specs.Registers.{inRange, Good}
+use Rattle.registers.specs.Registers.{inRange}
+use Rattle.registers.specs.Good.{Good}
 use Rattle.registers.proofs.InRange.{good, formed}
 use Rattle.loan.specs.declared.Loan.{Loan}
-use Rattle.loan.specs.Loan.{fairLoan, Fair}
+use Rattle.loan.specs.Loan.{fairLoan}
+use Rattle.loan.specs.Fair.{Fair}
 use Rattle.loan.proofs.Touches.{fair}
 use Rattle.touches.specs.Touches.{Turn, Fails, Rests, Does, store}
 use Rattle.beam.specs.DataWords.{points}

@@ -1,8 +1,8 @@
 // The whole call of a run: any registers, any lent memory, any loan, any budget and any point list, refused or run.
 ghost use mathlib.Core.Path.{_≡_};
 ghost use lib.ListN.{length};
-ghost use Rattle.registers.specs.Registers.{Good};
-ghost use Rattle.loan.specs.Loan.{Fair};
+ghost use Rattle.registers.specs.Good.{Good};
+ghost use Rattle.loan.specs.Fair.{Fair};
 ghost use Rattle.runs.specs.Runs.{left, leaves};
 ghost use Rattle.calls.specs.Calls.{refusedRun, entered, call, numbered, KeepsInRange};
 use endings::Ending;

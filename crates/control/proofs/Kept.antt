@@ -5,7 +5,7 @@ use Rattle.words.specs.Words.{bit, pick}
 use Rattle.words.proofs.Laws.{pick-case}
 use Rattle.addresses.specs.Addresses.{addressAfter, addressIn, pointerAfter, pointerBefore}
 use Rattle.registers.specs.declared.Base.{Base}
-use Rattle.registers.specs.Registers.{GoodBase}
+use Rattle.registers.specs.Good.{GoodBase}
 use Rattle.registers.proofs.Setting.{address-set, pointer-set, x-set, y-set, mode-set, scale-set, intensity-set}
 use Rattle.control.specs.ControlWords.{scaleBy, parameter, coordinate, mode, jump, push, pop}
 

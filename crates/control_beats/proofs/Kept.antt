@@ -5,7 +5,7 @@ use lib.Dec.{eqb}
 use Rattle.words.specs.Words.{bit, bits}
 use Rattle.words.proofs.Laws.{pick-case}
 use Rattle.registers.specs.declared.Base.{Base}
-use Rattle.registers.specs.Registers.{GoodBase, Good}
+use Rattle.registers.specs.Good.{GoodBase, Good}
 use Rattle.control.proofs.Kept.{parameter-good, mode-good, jump-good, push-good, pop-good}
 use Rattle.skips.proofs.Kept.{skipping-good, flag-skip-good, count-good, sync-good}
 use Rattle.button_skips.proofs.Kept.{button-skip-good, compare-good}

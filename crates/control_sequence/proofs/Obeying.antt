@@ -9,9 +9,9 @@ use lib.ListN.{length}
 use borrow.Author.Tests.{ltb-true, lt-ltb}
 use Rattle.words.specs.Words.{pick}
 use Rattle.registers.specs.declared.Base.{Base}
-use Rattle.registers.specs.Registers.{GoodBase, Good}
+use Rattle.registers.specs.Good.{GoodBase, Good}
 use Rattle.loan.specs.declared.Loan.{Loan}
-use Rattle.loan.specs.Loan.{Fair}
+use Rattle.loan.specs.Fair.{Fair}
 use Rattle.touches.specs.declared.Act.{Act}
 use Rattle.touches.specs.declared.Got.{Got}
 use Rattle.touches.specs.declared.Got.the-variants.{Word}

@@ -2,8 +2,8 @@
 // run's other tests decide nothing, so they are made in a loop that carries the registers without a motion.
 ghost use mathlib.Core.Path.{_≡_};
 ghost use lib.ListN.{length};
-ghost use Rattle.registers.specs.Registers.{GoodBase};
-ghost use Rattle.loan.specs.Loan.{Fair};
+ghost use Rattle.registers.specs.Good.{GoodBase};
+ghost use Rattle.loan.specs.Fair.{Fair};
 ghost use Rattle.control_sequence.specs.ControlWords.{obey, leaves};
 use endings::Ending;
 use endings::Halt;

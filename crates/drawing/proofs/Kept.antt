@@ -12,7 +12,8 @@ use Rattle.paper.proofs.Moves.{moved-small}
 use Rattle.registers.specs.declared.Base.{Base}
 use Rattle.registers.specs.declared.LineMotion.{LineMotion}
 use Rattle.registers.specs.declared.Motion.the-variants.{Nothing}
-use Rattle.registers.specs.Registers.{larger, GoodBase, Good}
+use Rattle.registers.specs.Registers.{larger}
+use Rattle.registers.specs.Good.{GoodBase, Good}
 use Rattle.registers.specs.With.{withAddress}
 use Rattle.registers.proofs.Setting.{address-set}
 use Rattle.beam.specs.declared.Outcome.{Outcome}

@@ -1,6 +1,6 @@
 -- A display that rests keeps its registers in range. Assumes nothing.
 use Rattle.registers.specs.declared.Registers.{Registers}
-use Rattle.registers.specs.Registers.{Good}
+use Rattle.registers.specs.Good.{Good}
 use Rattle.touches.specs.declared.Resting.{Resting}
 use Rattle.touches.specs.declared.Resting.the-variants.{External, Unusable}
 use Rattle.endings.specs.Endings.{rested}

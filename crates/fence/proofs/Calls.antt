@@ -8,7 +8,7 @@ use lib.Dec.{eqb, leb}
 use lib.ListN.{length}
 use lib.Seq.{take-at}
 use borrow.Author.Tests.{leb-true, le-leb}
-use Rattle.words.specs.Words.{pick, _and_}
+use Rattle.words.specs.Words.{pick}
 use Rattle.words.proofs.Laws.{pick-case}
 use Rattle.registers.specs.declared.Registers.{Registers}
 use Rattle.registers.specs.Registers.{inRange}
@@ -49,7 +49,7 @@ unfolding call pick
 accepted k l r m ps s b f g = rw (s, b, f, g)
 
 all-fair : fairLoan all ≡ true
-unfolding fairLoan _and_
+unfolding fairLoan
 all-fair = refl
 
 module _ (l : Loan) (m n ps qs : List ℕ) (h : Agree l m n) where

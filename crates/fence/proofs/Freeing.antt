@@ -11,7 +11,8 @@ use lib.ListN.{length, getD, length-append}
 use Rattle.words.specs.Words.{pick}
 use Rattle.registers.specs.declared.Registers.{Registers}
 use Rattle.loan.specs.declared.Loan.{Loan}
-use Rattle.loan.specs.Loan.{mayFetch, mayStore, Fair, all}
+use Rattle.loan.specs.Loan.{mayFetch, mayStore, all}
+use Rattle.loan.specs.Fair.{Fair}
 use Rattle.loan.proofs.Touches.{may-fetch-all, may-store-all}
 use Rattle.beam.specs.declared.Stop.{Stop}
 use Rattle.beam.specs.declared.Stop.the-variants.{None, Internal, Edge}

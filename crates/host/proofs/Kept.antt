@@ -15,7 +15,8 @@ use Rattle.addresses.specs.Addresses.{address, pointer, addressIn}
 use Rattle.registers.specs.declared.Base.{Base}
 use Rattle.registers.specs.declared.Motion.the-variants.{Nothing}
 use Rattle.registers.specs.declared.Registers.{Registers}
-use Rattle.registers.specs.Registers.{inRange, Good}
+use Rattle.registers.specs.Registers.{inRange}
+use Rattle.registers.specs.Good.{Good}
 use Rattle.registers.proofs.InRange.{good, formed}
 use Rattle.registers.proofs.Setting.{address-set, pointer-set, mode-set, buttons-set, conditions-set}
 use Rattle.operations.specs.HostOperations.{started, pointed, conditioned, resume, cleared}

@@ -20,7 +20,7 @@ use Rattle.registers.specs.declared.LineMotion.{LineMotion}
 use Rattle.registers.specs.declared.Motion.{Motion}
 use Rattle.registers.specs.declared.Motion.the-variants.{Line}
 use Rattle.registers.specs.declared.Registers.{Registers}
-use Rattle.registers.specs.Registers.{Good}
+use Rattle.registers.specs.Good.{Good}
 use Rattle.registers.proofs.InRange.{line-bounds}
 use Rattle.beam.specs.declared.Lit.{Lit}
 use Rattle.beam.specs.declared.Lit.the-variants.{Point}

@@ -16,7 +16,7 @@ use Rattle.paper.proofs.Moves.{clear-moved, clear-value}
 use Rattle.registers.specs.declared.Base.{Base}
 use Rattle.registers.specs.declared.Motion.{Motion}
 use Rattle.registers.specs.declared.Registers.{Registers}
-use Rattle.registers.specs.Registers.{Good}
+use Rattle.registers.specs.Good.{Good}
 use Rattle.beam.specs.declared.Lit.{Lit}
 use Rattle.beam.specs.declared.Lit.the-variants.{Dark, Point}
 use Rattle.moves.specs.declared.Move.{Move}

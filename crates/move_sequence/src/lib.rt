@@ -5,7 +5,7 @@ ghost use Prim.Native.Nat.{_+_, _-_, _≤_, _<_};
 ghost use lib.Dec.{ltb};
 ghost use lib.ListN.{length};
 ghost use Rattle.registers.specs.declared.Motion.the-variants.{Line, Bytes};
-ghost use Rattle.registers.specs.Registers.{Good};
+ghost use Rattle.registers.specs.Good.{Good};
 ghost use Rattle.words.specs.Words.{pick};
 ghost use Rattle.move_sequence.specs.PlainMoves.{beamAt, sequence, leaves};
 use beam::Lit;

@@ -15,7 +15,8 @@ use Rattle.registers.specs.declared.ByteMotion.{ByteMotion}
 use Rattle.registers.specs.declared.Motion.{Motion}
 use Rattle.registers.specs.declared.Motion.the-variants.{Nothing, Line, Bytes}
 use Rattle.registers.specs.declared.Registers.{Registers}
-use Rattle.registers.specs.Registers.{byteAt, movesAsked, escapes, GoodBase, GoodMotion, Good}
+use Rattle.registers.specs.Registers.{byteAt, movesAsked, escapes}
+use Rattle.registers.specs.Good.{GoodBase, GoodMotion, Good}
 use Rattle.moves.specs.declared.Move.{Move}
 use Rattle.beam.specs.declared.Outcome.{Outcome}
 use Rattle.moves.specs.declared.Moving.the-variants.{Going}

@@ -10,7 +10,8 @@ use Rattle.registers.specs.declared.LineMotion.{LineMotion}
 use Rattle.registers.specs.declared.ByteMotion.{ByteMotion}
 use Rattle.registers.specs.declared.Motion.{Motion}
 use Rattle.registers.specs.declared.Motion.the-variants.{Nothing, Line, Bytes}
-use Rattle.registers.specs.Registers.{byteAt, movesAsked, escapes, GoodLine}
+use Rattle.registers.specs.Registers.{byteAt, movesAsked, escapes}
+use Rattle.registers.specs.Good.{GoodLine}
 use Rattle.beam.specs.DataWords.{arrived, stillEnd}
 use Rattle.moves.specs.declared.Move.{Move}
 use Rattle.beam.specs.declared.Outcome.{Outcome}

@@ -1,6 +1,6 @@
 // Move beats: what a line or a byte does next, and the move made.
 ghost use mathlib.Core.Path.{_≡_};
-ghost use Rattle.registers.specs.Registers.{GoodLine};
+ghost use Rattle.registers.specs.Good.{GoodLine};
 ghost use Rattle.moves.specs.DataWords.{lineNext, lineMove, byteNext, byteMove, GoodLineIn, nextMove, displaced};
 use beam::Outcome;
 use registers::Base;

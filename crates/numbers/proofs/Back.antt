@@ -9,12 +9,13 @@ use native.Mathlib.Omega.{arith}
 use lib.Dec.{leb, eqb}
 use borrow.Author.Tests.{le-leb}
 use mir.Val.{boolByte}
-use Rattle.words.specs.Words.{pick, _and_}
+use Rattle.words.specs.Words.{pick}
 use Rattle.registers.specs.declared.Base.{Base}
 use Rattle.registers.specs.declared.Motion.{Motion}
 use Rattle.registers.specs.declared.Motion.the-variants.{Nothing, Line, Bytes}
 use Rattle.registers.specs.declared.Registers.{Registers}
-use Rattle.registers.specs.Registers.{inRange, numbersInRange, motionInRange, GoodBase, Good}
+use Rattle.registers.specs.Registers.{inRange, numbersInRange, motionInRange}
+use Rattle.registers.specs.Good.{GoodBase, Good}
 use Rattle.registers.proofs.InRange.{good}
 use Rattle.numbers.specs.Numbers.{fits, narrowFit, flagsFit, motionFits, baseOf, motionOf, fitted, registersOf, motionRow, joined, rowOf, Faithful}
 
@@ -74,7 +75,7 @@ back r h =
     fitting (rowOf r) (row-fits r g) ∙ same (base-back (r .base) (motionRow (r .motion)) (g .base)) (motion-back (r .base) (r .motion))
 
 refused : (row : List ℕ) → fits row ≡ false → inRange (registersOf row) ≡ false
-unfolding registersOf pick inRange numbersInRange motionInRange _and_
+unfolding registersOf pick inRange numbersInRange motionInRange
 refused row e = rw e
 
 pub faithful : Faithful

@@ -5,85 +5,89 @@ use mathlib.Core.Bool.{Bool, true, false}
 use native.Mathlib.Omega.{arith}
 use lib.Dec.{ltb}
 use borrow.Author.Tests.{ltb-true, ltb-false, lt-ltb, leb-true, le-leb, eqb-true, eq-eqb, not-true}
-use Rattle.words.specs.Words.{pick, _and_}
-use Rattle.words.proofs.Laws.{and-left, and-right}
+use Rattle.words.specs.Words.{pick}
+use Rattle.words.proofs.Laws.{both}
 use Rattle.registers.specs.declared.Base.{Base}
 use Rattle.registers.specs.declared.LineMotion.{LineMotion}
 use Rattle.registers.specs.declared.ByteMotion.{ByteMotion}
 use Rattle.registers.specs.declared.Motion.{Motion}
 use Rattle.registers.specs.declared.Motion.the-variants.{Nothing, Line, Bytes}
 use Rattle.registers.specs.declared.Registers.{Registers}
-use Rattle.registers.specs.Registers.{larger, numbersInRange, lineInRange, bytesInRange, motionInRange, inRange, GoodBase, GoodLine, GoodBytes, GoodMotion, Good, fresh}
+use Rattle.registers.specs.Registers.{larger, numbersInRange, lineInRange, bytesInRange, motionInRange, inRange, fresh}
+use Rattle.registers.specs.Good.{GoodBase, GoodLine, GoodBytes, GoodMotion, Good}
 
 good-base : (b : Base) → numbersInRange b ≡ true → GoodBase b
 unfolding numbersInRange
-good-base b h8 =
-    let h7 = and-left _ _ h8 in
-    let h6 = and-left _ _ h7 in
-    let h5 = and-left _ _ h6 in
-    let h4 = and-left _ _ h5 in
-    let h3 = and-left _ _ h4 in
-    let h2 = and-left _ _ h3 in
-    let h1 = and-left _ _ h2 in
+good-base b h =
+    let h8 = both _ _ h in
+    let h7 = both _ _ (h8 .0) in
+    let h6 = both _ _ (h7 .0) in
+    let h5 = both _ _ (h6 .0) in
+    let h4 = both _ _ (h5 .0) in
+    let h3 = both _ _ (h4 .0) in
+    let h2 = both _ _ (h3 .0) in
+    let h1 = both _ _ (h2 .0) in
     record {
-      address = ltb-true _ _ (and-left _ _ h1);
-      pointer = ltb-true _ _ (and-right _ _ h1);
-      x = ltb-true _ _ (and-right _ _ h2);
-      y = ltb-true _ _ (and-right _ _ h3);
-      mode = ltb-true _ _ (and-right _ _ h4);
-      scale = ltb-true _ _ (and-right _ _ h5);
-      intensity = ltb-true _ _ (and-right _ _ h6);
-      buttons = ltb-true _ _ (and-right _ _ h7);
-      conditions = ltb-true _ _ (and-right _ _ h8);
+      address = ltb-true _ _ (h1 .0);
+      pointer = ltb-true _ _ (h1 .1);
+      x = ltb-true _ _ (h2 .1);
+      y = ltb-true _ _ (h3 .1);
+      mode = ltb-true _ _ (h4 .1);
+      scale = ltb-true _ _ (h5 .1);
+      intensity = ltb-true _ _ (h6 .1);
+      buttons = ltb-true _ _ (h7 .1);
+      conditions = ltb-true _ _ (h8 .1);
     }
 
 good-line : (l : LineMotion) → lineInRange l ≡ true → GoodLine l
 unfolding lineInRange
-good-line l h4 =
-    let h3 = and-left _ _ h4 in
-    let h2 = and-left _ _ h3 in
-    let h1 = and-left _ _ h2 in
+good-line l h =
+    let h4 = both _ _ h in
+    let h3 = both _ _ (h4 .0) in
+    let h2 = both _ _ (h3 .0) in
+    let h1 = both _ _ (h2 .0) in
     record {
-      magx = ltb-true _ _ (and-left _ _ h1);
-      magy = ltb-true _ _ (and-right _ _ h1);
-      larger = eqb-true _ _ (and-right _ _ h2);
-      some = leb-true _ _ (and-right _ _ h3);
-      done = ltb-true _ _ (and-right _ _ h4);
+      magx = ltb-true _ _ (h1 .0);
+      magy = ltb-true _ _ (h1 .1);
+      larger = eqb-true _ _ (h2 .1);
+      some = leb-true _ _ (h3 .1);
+      done = ltb-true _ _ (h4 .1);
     }
 
 good-bytes : (t : ByteMotion) → bytesInRange t ≡ true → GoodBytes t
 unfolding bytesInRange
-good-bytes t h3 =
-    let h2 = and-left _ _ h3 in
-    let h1 = and-left _ _ h2 in
+good-bytes t h =
+    let h3 = both _ _ h in
+    let h2 = both _ _ (h3 .0) in
+    let h1 = both _ _ (h2 .0) in
     record {
-      word = ltb-true _ _ (and-left _ _ h1);
-      some = leb-true _ _ (and-right _ _ h1);
-      asked = leb-true _ _ (and-right _ _ h2);
-      reached = not-true _ (and-right _ _ h3);
+      word = ltb-true _ _ (h1 .0);
+      some = leb-true _ _ (h1 .1);
+      asked = leb-true _ _ (h2 .1);
+      reached = not-true _ (h3 .1);
     }
 
 good-motion : (m : Motion) (datastate : Bool) (mode : ℕ) → motionInRange m datastate mode ≡ true → GoodMotion m datastate mode
 unfolding motionInRange
 good-motion Nothing datastate mode h = tt
-good-motion (Line l) datastate mode h3 =
-    let h2 = and-left _ _ h3 in
-    let h1 = and-left _ _ h2 in
-    (and-left _ _ h1, leb-true _ _ (and-right _ _ h1), leb-true _ _ (and-right _ _ h2), good-line l (and-right _ _ h3))
-good-motion (Bytes t) datastate mode h2 =
-    let h1 = and-left _ _ h2 in
-    (and-left _ _ h1, eqb-true _ _ (and-right _ _ h1), good-bytes t (and-right _ _ h2))
+good-motion (Line l) datastate mode h =
+    let h3 = both _ _ h in
+    let h2 = both _ _ (h3 .0) in
+    let h1 = both _ _ (h2 .0) in
+    (h1 .0, leb-true _ _ (h1 .1), leb-true _ _ (h2 .1), good-line l (h3 .1))
+good-motion (Bytes t) datastate mode h =
+    let h2 = both _ _ h in
+    let h1 = both _ _ (h2 .0) in
+    (h1 .0, eqb-true _ _ (h1 .1), good-bytes t (h2 .1))
 
 pub good : (r : Registers) → inRange r ≡ true → Good r
 unfolding inRange
 good r h =
-    record {
-      base = good-base (r .base) (and-left _ _ h);
-      motion = good-motion (r .motion) (r .base .datastate) (r .base .mode) (and-right _ _ h);
-    }
+    let k = both _ _ h in
+    record { base = good-base (r .base) (k .0); motion = good-motion (r .motion) (r .base .datastate) (r .base .mode) (k .1) }
 
 formed-base : (b : Base) → GoodBase b → numbersInRange b ≡ true
-unfolding numbersInRange _and_
+unfolding numbersInRange
 formed-base b g =
     rw (
       lt-ltb _ _ (g .address),
@@ -98,7 +102,7 @@ formed-base b g =
     )
 
 formed-line : {l : LineMotion} → GoodLine l → lineInRange l ≡ true
-unfolding lineInRange _and_
+unfolding lineInRange
 formed-line g =
     rw (
       lt-ltb _ _ (g .magx),
@@ -109,22 +113,22 @@ formed-line g =
     )
 
 formed-bytes : {t : ByteMotion} → GoodBytes t → bytesInRange t ≡ true
-unfolding bytesInRange _and_
+unfolding bytesInRange
 formed-bytes g = rw (lt-ltb _ _ (g .word), le-leb _ _ (g .some), le-leb _ _ (g .asked), g .reached)
 
 formed-motion : (m : Motion) (datastate : Bool) (mode : ℕ) → GoodMotion m datastate mode → motionInRange m datastate mode ≡ true
-unfolding motionInRange _and_
+unfolding motionInRange
 formed-motion Nothing datastate mode g = refl
 formed-motion (Line l) datastate mode g = rw (g .0, le-leb _ _ (g .1), le-leb _ _ (g .2), formed-line (g .3))
 formed-motion (Bytes t) datastate mode g = rw (g .0, eq-eqb _ _ (g .1), formed-bytes (g .2))
 
 pub formed : (r : Registers) → Good r → inRange r ≡ true
-unfolding inRange _and_
+unfolding inRange
 formed r g = rw (formed-base (r .base) (g .base), formed-motion (r .motion) (r .base .datastate) (r .base .mode) (g .motion))
 
 -- the fresh registers are in range
 pub fresh-formed : inRange fresh ≡ true
-unfolding inRange numbersInRange motionInRange _and_
+unfolding inRange numbersInRange motionInRange
 fresh-formed = refl
 
 -- the bounds that a line's move needs

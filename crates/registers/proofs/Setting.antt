@@ -1,6 +1,6 @@
 -- Numbers in range with one of them set to another in range: one law a number, which every command and operation cites. Assumes nothing.
 use Prim.Native.Nat.{ℕ, _<_}
-use Rattle.registers.specs.Registers.{GoodNumbers}
+use Rattle.registers.specs.Good.{GoodNumbers}
 
 module _ {a p u v m s i k c : ℕ} (g : GoodNumbers a p u v m s i k c) where
   pub address-set : {n : ℕ} → n < 32768 → GoodNumbers n p u v m s i k c

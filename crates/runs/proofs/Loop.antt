@@ -10,10 +10,10 @@ use native.Mathlib.Omega.{arith}
 use Rattle.registers.specs.declared.Registers.{Registers}
 use Rattle.registers.specs.declared.Motion.{Motion}
 use Rattle.registers.specs.declared.Motion.the-variants.{Nothing, Line, Bytes}
-use Rattle.registers.specs.Registers.{GoodMotion, Good}
+use Rattle.registers.specs.Good.{GoodMotion, Good}
 use Rattle.moves.specs.DataWords.{GoodLineIn}
 use Rattle.loan.specs.declared.Loan.{Loan}
-use Rattle.loan.specs.Loan.{Fair}
+use Rattle.loan.specs.Fair.{Fair}
 use Rattle.touches.specs.declared.Act.{Act}
 use Rattle.touches.specs.declared.Resting.{Resting}
 use Rattle.touches.specs.declared.Why.{Why}

@@ -27,7 +27,7 @@ use Rattle.moves.proofs.Kept.{neither}
 use Rattle.move_sequence.specs.PlainMoves.{plain, SequenceLeft, onMove, sequence}
 use Rattle.move_sequence.proofs.Plain.{both, plainly}
 use Rattle.loan.specs.declared.Loan.{Loan}
-use Rattle.loan.specs.Loan.{Fair}
+use Rattle.loan.specs.Fair.{Fair}
 use Rattle.touches.specs.declared.Act.{Act}
 use Rattle.touches.specs.Touches.{Turn, Fails, Rests, Does, whole, allowed, walk, store}
 use Rattle.turns.specs.OneTurn.{roomFor, turn, Drawing}

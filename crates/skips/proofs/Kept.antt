@@ -8,7 +8,7 @@ use Rattle.words.proofs.Laws.{pick-case}
 use Rattle.addresses.specs.declared.DisplayAddress.{DisplayAddress}
 use Rattle.addresses.specs.Addresses.{addressAfter}
 use Rattle.registers.specs.declared.Base.{Base}
-use Rattle.registers.specs.Registers.{GoodBase}
+use Rattle.registers.specs.Good.{GoodBase}
 use Rattle.registers.proofs.Setting.{address-set, scale-set, intensity-set}
 use Rattle.skips.specs.ControlWords.{skipping, flagSkip, counted, count, sync}
 

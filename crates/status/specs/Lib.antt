@@ -1,1 +1,2 @@
+pub mod FlagAt
 pub mod Status

@@ -1,7 +1,6 @@
--- The status layouts of the manual, 2.3.1.5 and 2.3.1.6, as 01's section 'Host operations' reads them. Assumes nothing.
-use Prim.Native.Nat.{ℕ, _+_, _*_, _/_, _%_, _^_, _≤_}
+-- Section 'Host operations' of 01, status 1 and 2: the layouts of the manual, 2.3.1.5 and 2.3.1.6, as 01 reads them. Assumes nothing.
+use Prim.Native.Nat.{ℕ, _+_, _*_, _/_, _%_, _^_}
 use mathlib.Core.Bool.{Bool, false, not, _&&_, _||_}
-use mathlib.Core.Path.{_≡_}
 use Rattle.words.specs.Words.{bit, weight, pick}
 use Rattle.addresses.specs.Addresses.{breakField}
 use Rattle.paper.specs.DataWords.{sectorZero}
@@ -12,11 +11,6 @@ use Rattle.registers.specs.declared.Motion.the-variants.{Nothing, Line, Bytes}
 -- a word whose bit at this place is 1, if the flag is on, and all else 0
 abbrev pub flag : Bool → ℕ → ℕ
 flag on place = pick on (weight place) 0
-
--- the same for a weight, with its bound
-pub record FlagAt (on : Bool) (weight r : ℕ) : Type 0 where
-  pub is : r ≡ pick on weight 0
-  pub small : r ≤ weight
 
 -- bits 4, 5 scale, 6 to 8 mode, 9 to 11 intensity: status 2 (2.3.1.6) and a push's first word (1.1.6) alike
 abbrev pub settings : Base → ℕ

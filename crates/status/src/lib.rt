@@ -1,6 +1,7 @@
 // The two status words of the display, and the low bits of the push's first word, which status 2 shares.
 ghost use mathlib.Core.Path.{_≡_};
-ghost use Rattle.status.specs.Status.{FlagAt, settings, interrupts, statusOne, byteFlag, statusTwo};
+ghost use Rattle.status.specs.Status.{settings, interrupts, statusOne, byteFlag, statusTwo};
+ghost use Rattle.status.specs.FlagAt.{FlagAt};
 use registers::Base;
 use registers::Motion;
 

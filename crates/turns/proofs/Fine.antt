@@ -11,7 +11,7 @@ use borrow.Author.Tests.{leb-true, eqb-true, eqb-false}
 use Rattle.words.proofs.Laws.{pick-case}
 use Rattle.registers.specs.declared.Base.{Base}
 use Rattle.registers.specs.declared.Registers.{Registers}
-use Rattle.registers.specs.Registers.{GoodBase, Good}
+use Rattle.registers.specs.Good.{GoodBase, Good}
 use Rattle.beam.specs.declared.Outcome.{Outcome}
 use Rattle.moves.specs.declared.Moving.{Moving}
 use Rattle.moves.specs.declared.Moving.the-variants.{Still, Going}
@@ -19,7 +19,7 @@ use Rattle.moves.specs.DataWords.{nextMove}
 use Rattle.moves.proofs.Kept.{displaced-good}
 use Rattle.drawing.proofs.Kept.{point-good, increment-good, vector-good, short-vector-good, graphplot-good}
 use Rattle.loan.specs.declared.Loan.{Loan}
-use Rattle.loan.specs.Loan.{Fair}
+use Rattle.loan.specs.Fair.{Fair}
 use Rattle.touches.specs.declared.Act.{Act}
 use Rattle.touches.specs.Touches.{Turn, Fails, Rests, Does, walk}
 use Rattle.touches.proofs.Fine.{GoodBeat, Inside, FineWalk, walk-fine}

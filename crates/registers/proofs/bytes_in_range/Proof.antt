@@ -1,12 +1,11 @@
 -- `registers::bytes_in_range` meets its promise: the tests are the definition's. Assumes nothing.
 use borrow.Author.Needs.{needs}
-use Rattle.words.specs.Words.{_and_}
 use Rattle.registers.specs.Registers.{bytesInRange}
 use Rattle.registers.proofs.bytes_in_range.Statement.{statement}
 use Rattle.registers.proofs.bytes_in_range.Tie as tie
 
 pub bytes-in-range-spec : {M : Type 1} → statement M
-unfolding bytesInRange _and_
+unfolding bytesInRange
 bytes-in-range-spec =
     tie.close
     (tie.spec

@@ -1,12 +1,11 @@
 -- `registers::line_in_range` meets its promise: the tests are the definition's. Assumes nothing.
 use borrow.Author.Needs.{needs}
-use Rattle.words.specs.Words.{_and_}
 use Rattle.registers.specs.Registers.{lineInRange}
 use Rattle.registers.proofs.line_in_range.Statement.{statement}
 use Rattle.registers.proofs.line_in_range.Tie as tie
 
 pub line-in-range-spec : {M : Type 1} → statement M
-unfolding lineInRange _and_
+unfolding lineInRange
 line-in-range-spec =
     tie.close
     (tie.spec

@@ -1,12 +1,11 @@
 -- `registers::motion_in_range` meets its promise: each arm is a clause of the definition. Assumes nothing.
 use borrow.Author.Needs.{needs}
-use Rattle.words.specs.Words.{_and_}
 use Rattle.registers.specs.Registers.{motionInRange}
 use Rattle.registers.proofs.motion_in_range.Statement.{statement}
 use Rattle.registers.proofs.motion_in_range.Tie as tie
 
 pub motion-in-range-spec : {M : Type 1} → statement M
-unfolding motionInRange _and_
+unfolding motionInRange
 motion-in-range-spec =
     tie.close
     (tie.spec

@@ -6,7 +6,7 @@ use borrow.Author.Needs.{needs}
 use denote.Ref.{now}
 use Rattle.registers.specs.declared.Motion.{Motion}
 use Rattle.registers.specs.declared.Motion.the-variants.{Line, Bytes}
-use Rattle.registers.specs.Registers.{Good}
+use Rattle.registers.specs.Good.{Good}
 use Rattle.move_sequence.specs.PlainMoves.{SequenceLeft}
 use Rattle.control_sequence.specs.ControlWords.{ObeyedLeft}
 use Rattle.runs.specs.Ahead.{afterWords, afterMoves, aheadBy}

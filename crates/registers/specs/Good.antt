@@ -1,0 +1,50 @@
+-- No reader has to believe this file: it says the test of refusal 4 (Registers.antt) once more as facts, which proofs take apart and put together again.
+-- That test and facts are the same is proved in proofs/InRange.antt. Assumes nothing.
+use Prim.Native.Nat.{ℕ, _<_, _≤_}
+use mathlib.Core.Bool.{Bool, true, false, _&&_}
+use mathlib.Core.Path.{_≡_}
+use Rattle.registers.specs.declared.Base.{Base}
+use Rattle.registers.specs.declared.LineMotion.{LineMotion}
+use Rattle.registers.specs.declared.ByteMotion.{ByteMotion}
+use Rattle.registers.specs.declared.Motion.{Motion}
+use Rattle.registers.specs.declared.Motion.the-variants.{Nothing, Line, Bytes}
+use Rattle.registers.specs.declared.Registers.{Registers}
+use Rattle.registers.specs.Registers.{larger, byteAt, movesAsked, escapes}
+
+-- over the numbers themselves, so that what changes none of them keeps the fact as it is
+pub record GoodNumbers (a p u v m s i k c : ℕ) : Type 0 where
+  pub address : a < 32768
+  pub pointer : p < 4096
+  pub x : u < 8192
+  pub y : v < 8192
+  pub mode : m < 8
+  pub scale : s < 4
+  pub intensity : i < 8
+  pub buttons : k < 4096
+  pub conditions : c < 4096
+
+abbrev pub GoodBase : Base → Type 0
+GoodBase b =
+    GoodNumbers (b .address .0) (b .pointer .0) (b .x) (b .y) (b .mode) (b .scale) (b .intensity) (b .buttons) (b .conditions)
+
+pub record GoodLine (l : LineMotion) : Type 0 where
+  pub magx : l .magx < 1024
+  pub magy : l .magy < 1024
+  pub larger : l .moves ≡ larger (l .magx) (l .magy)
+  pub some : 1 ≤ l .moves
+  pub done : l .done < l .moves
+
+pub record GoodBytes (t : ByteMotion) : Type 0 where
+  pub word : t .word < 4096
+  pub some : 1 ≤ t .moves
+  pub asked : t .moves ≤ movesAsked (byteAt (t .word) (t .right))
+  pub reached : (t .right && escapes (byteAt (t .word) false)) ≡ false
+
+abbrev pub GoodMotion : Motion → Bool → ℕ → Type 0
+GoodMotion Nothing datastate mode = Unit {0}
+GoodMotion (Line l) datastate mode = (datastate ≡ true) × (2 ≤ mode) × (mode ≤ 4) × GoodLine l
+GoodMotion (Bytes t) datastate mode = (datastate ≡ true) × (mode ≡ 1) × GoodBytes t
+
+pub record Good (r : Registers) : Type 0 where
+  pub base : GoodBase (r .base)
+  pub motion : GoodMotion (r .motion) (r .base .datastate) (r .base .mode)

@@ -1,5 +1,6 @@
 -- Words 0 to 3 keep registers in range: each field of a word is no wider than the register that it goes into. Assumes nothing.
 use Prim.Native.Nat.{ℕ, _%_, _<_}
+use mathlib.Core.Bool.{not}
 use native.Mathlib.Omega.{arith}
 use Rattle.words.specs.Words.{bit, pick}
 use Rattle.words.proofs.Laws.{pick-case}
@@ -37,7 +38,7 @@ jump-good b w v g = scale-set (address-set g (omega arith)) (scale-small w (g .s
 
 pub push-good : (b : Base) (w v : ℕ) → GoodBase b → GoodBase (push b w v)
 unfolding push pointerAfter
-push-good b w v g = pointer-set (jump-good b w v g) (omega arith)
+push-good b w v g = jump-good _ w v (pointer-set g (omega arith))
 
 pub pop-good : (b : Base) (w first second : ℕ) → GoodBase b → GoodBase (pop b w first second)
 unfolding pop addressIn pointerBefore
@@ -45,6 +46,6 @@ pop-good b w first second g =
     mode-set
     (intensity-set
     (scale-set (pointer-set (address-set g (omega arith)) (omega arith))
-    (scale-small w (pick-case (λ (n : ℕ). n < 4) (bit w 9) (λ _. g .scale) (λ _. omega arith))))
-    (pick-case (λ (n : ℕ). n < 8) (bit w 10) (λ _. g .intensity) (λ _. omega arith)))
-    (pick-case (λ (n : ℕ). n < 8) (bit w 8) (λ _. g .mode) (λ _. omega arith))
+    (scale-small w (pick-case (λ (n : ℕ). n < 4) (not (bit w 9)) (λ _. omega arith) (λ _. g .scale))))
+    (pick-case (λ (n : ℕ). n < 8) (not (bit w 10)) (λ _. omega arith) (λ _. g .intensity)))
+    (pick-case (λ (n : ℕ). n < 8) (not (bit w 8)) (λ _. omega arith) (λ _. g .mode))

@@ -1,8 +1,8 @@
 // The control words 0 to 3, each on the registers other than the motion. A command picks the new values and calls a setter: only setters hold a
 // struct literal, which keeps both the compiled code and the proofs small. Words 4 to 7 are in skips and button_skips.
 ghost use mathlib.Core.Path.{_≡_};
-ghost use Rattle.control.specs.ControlWords.{statusSet, modeSet};
 ghost use Rattle.control.specs.ControlWords.{scaleBy, penBy, parameter, coordinate, mode, jump, push, pushedFirst, pushedSecond, pop};
+ghost use Rattle.control.specs.Setters.{statusSet, modeSet};
 use addresses::DisplayAddress;
 use addresses::PushdownPointer;
 use registers::Base;
@@ -184,14 +184,14 @@ pub fn pop(b: Base, word: u16, first: u16, second: u16) -> Base
     ensures { λ r. ⌜ r ≡ pop b word first second ⌝ }
 {
     let address = DisplayAddress::in_field(words::bits(first, 0, 2), second);
-    let mode = words::pick_u8(words::bit(word, 8), b.mode, words::bits(first, 6, 8) as u8);
+    let mode = words::pick_u8(!words::bit(word, 8), words::bits(first, 6, 8) as u8, b.mode);
     let inhibit = words::bit(word, 9);
-    let scale = words::pick_u8(inhibit, b.scale, words::bits(first, 4, 5) as u8);
-    let pen = words::pick_bool(inhibit, b.pen, words::bit(first, 3));
+    let scale = words::pick_u8(!inhibit, words::bits(first, 4, 5) as u8, b.scale);
+    let pen = words::pick_bool(!inhibit, words::bit(first, 3), b.pen);
     let intensity = words::pick_u8(
-        words::bit(word, 10),
-        b.intensity,
+        !words::bit(word, 10),
         words::bits(first, 9, 11) as u8,
+        b.intensity,
     );
     let enter = words::bit(word, 11);
     status_set(

@@ -33,11 +33,13 @@ unfoldable pub resume : Base → Base
 resume b =
     let off = b .penflag && bit (b .conditions) 2 in
     let held = off && not (bit (b .conditions) 3) in
-    pick (b .running) b (resumed b (b .pen && not off) (b .hold || held))
+    pick (not (b .running)) (resumed b (b .pen && not off) (b .hold || held)) b
 
 -- 5 clear: those flags, the low 12 address bits, mode, request, hold; control state, stopped
 unfoldable pub cleared : Base → Base
-cleared b = withRunning (started b (addressIn (breakField (b .address)) 0)) false
+cleared b =
+    let emptied = withMode (withAddress (stopsOff b) (addressIn (breakField (b .address)) 0)) 0 in
+    withRunning (withDatastate (withHold (withRequest emptied false) false) false) false
 
 -- 6 stop request; none if stopped
 abbrev pub requested : Base → Base

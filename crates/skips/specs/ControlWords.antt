@@ -4,22 +4,14 @@ use Prim.Native.Nat.{ℕ, _+_, _-_}
 use mathlib.Core.Bool.{Bool, not, _&&_, _||_}
 use lib.Dec.{ltb}
 use Rattle.words.specs.Words.{bit, pick}
-use Rattle.addresses.specs.declared.DisplayAddress.{DisplayAddress}
 use Rattle.addresses.specs.Addresses.{addressAfter}
 use Rattle.paper.specs.DataWords.{sectorZero}
 use Rattle.registers.specs.declared.Base.{Base}
-use Rattle.registers.specs.With.{withAddress, withButtons, withScale, withIntensity, withBlink, withSense, withIdle}
+use Rattle.registers.specs.With.{withAddress, withScale, withIntensity, withBlink, withSense, withIdle}
 
 -- every skip passes two words (01, Control words)
 unfoldable pub skipping : Base → Bool → Base
 skipping b skip = withAddress b (pick skip (addressAfter (b .address) 3) (addressAfter (b .address) 1))
-
--- what the two setters of the code set
-abbrev pub skipSet : Base → Bool → ℕ → Bool → Bool → Base
-skipSet b skip buttons sense idle = withIdle (withSense (withButtons (skipping b skip) buttons) sense) idle
-
-abbrev pub countSet : Base → DisplayAddress → ℕ → ℕ → Bool → Base
-countSet b a s i k = withBlink (withIntensity (withScale (withAddress b a) s) i) k
 
 -- 62: skip once if any asked condition holds: bit 6 always; 7 beam not in sector 0; 8, 9 hit flag of bank 1, 2 off; 10 LPSI off
 unfoldable pub flagSkips : Base → ℕ → Bool
@@ -41,9 +33,10 @@ counted v top on down = pick on (pick down (v - 1) (pick (ltb v top) (v + 1) v))
 -- 63: count scale and intensity, stopping at the ends; bit 10 blink on, then bit 11 off
 unfoldable pub count : Base → ℕ → Base
 count b w =
-    countSet b (addressAfter (b .address) 1) (counted (b .scale) 3 (bit w 6) (bit w 7))
-    (counted (b .intensity) 7 (bit w 8) (bit w 9))
-    ((b .blink || bit w 10) && not (bit w 11))
+    let next = withAddress b (addressAfter (b .address) 1) in
+    let scaled = withScale next (counted (b .scale) 3 (bit w 6) (bit w 7)) in
+    let lit = withIntensity scaled (counted (b .intensity) 7 (bit w 8) (bit w 9)) in
+    withBlink lit ((b .blink || bit w 10) && not (bit w 11))
 
 -- 7: bit 10 skips if idle is on, then bit 11 clears it
 unfoldable pub sync : Base → ℕ → Base

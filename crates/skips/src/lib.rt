@@ -1,7 +1,8 @@
 // The control words 62 to 67 and 7: skips on flags, counts, and the idle flag; and how every skip goes on. Words 4, 5, 60 and 61 are in button_skips.
 ghost use mathlib.Core.Path.{_≡_};
 ghost use mathlib.Core.Bool.{false};
-ghost use Rattle.skips.specs.ControlWords.{skipping, skipSet, countSet, flagSkips, flagSkip, counted, count, sync};
+ghost use Rattle.skips.specs.ControlWords.{skipping, flagSkips, flagSkip, counted, count, sync};
+ghost use Rattle.skips.specs.Setters.{skipSet, countSet};
 use addresses::DisplayAddress;
 use registers::Base;
 

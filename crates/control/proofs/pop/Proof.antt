@@ -1,10 +1,11 @@
 -- `control::pop` meets its promise: each value is its callees', and the setter sets them side by side. Assumes nothing.
 use borrow.Author.Needs.{needs}
-use mathlib.Core.Path.{_≡_, _∙_}
-use mathlib.Core.Bool.{_||_}
+use mathlib.Core.Path.{_≡_}
+use mathlib.Core.Bool.{not, _||_}
 use Rattle.words.specs.Words.{bit, bits, pick}
 use Rattle.addresses.specs.Addresses.{addressIn}
-use Rattle.control.specs.ControlWords.{statusSet, scaleBy, penBy, pop}
+use Rattle.control.specs.ControlWords.{scaleBy, penBy, pop}
+use Rattle.control.specs.Setters.{statusSet}
 use Rattle.control.proofs.pop.Statement.{statement}
 use Rattle.control.proofs.pop.Tie as tie
 
@@ -38,9 +39,9 @@ pop-spec =
     let w = a .word in
     let f = a .first in
     let address : c .before .before .before .before .before .before .before .before .before .before .before .before .before .before .before .before .before .in-field .result ≡ addressIn (bits f 0 2) (a .second) = rw (c .before .before .before .before .before .before .before .before .before .before .before .before .before .before .before .before .before .in-field .ensures, c .before .before .before .before .before .before .before .before .before .before .before .before .before .before .before .before .before .before .bits .ensures) in
-    let scale : c .before .before .before .scale-by .result ≡ scaleBy w (pick (bit w 9) (a .b .scale) (bits f 4 5)) = rw (c .before .before .before .scale-by .ensures, c .before .before .before .before .before .before .before .before .before .before .before .pick-u82 .ensures, c .before .before .before .before .before .before .before .before .before .before .before .before .bits3 .ensures, c .before .before .before .before .before .before .before .before .before .before .before .before .before .bit2 .ensures) in
-    let pen : c .before .before .pen-by .result ≡ penBy w (pick (bit w 9) (a .b .pen) (bit f 3)) = rw (c .before .before .pen-by .ensures, c .before .before .before .before .before .before .before .before .before .pick-bool .ensures, c .before .before .before .before .before .before .before .before .before .before .bit3 .ensures, c .before .before .before .before .before .before .before .before .before .before .before .before .before .bit2 .ensures) in
-    let intensity : c .before .before .before .before .before .before .pick-u83 .result ≡ pick (bit w 10) (a .b .intensity) (bits f 9 11) = rw (c .before .before .before .before .before .before .pick-u83 .ensures, c .before .before .before .before .before .before .before .bits4 .ensures, c .before .before .before .before .before .before .before .before .bit4 .ensures) in
-    let mode : c .before .before .before .before .before .before .before .before .before .before .before .before .before .before .pick-u8 .result ≡ pick (bit w 8) (a .b .mode) (bits f 6 8) = rw (c .before .before .before .before .before .before .before .before .before .before .before .before .before .before .pick-u8 .ensures, c .before .before .before .before .before .before .before .before .before .before .before .before .before .before .before .bits2 .ensures, c .before .before .before .before .before .before .before .before .before .before .before .before .before .before .before .before .bit .ensures) in
+    let scale : c .before .before .before .scale-by .result ≡ scaleBy w (pick (not (bit w 9)) (bits f 4 5) (a .b .scale)) = rw (c .before .before .before .scale-by .ensures, c .before .before .before .before .before .before .before .before .before .before .before .pick-u82 .ensures, c .before .before .before .before .before .before .before .before .before .before .before .before .bits3 .ensures, c .before .before .before .before .before .before .before .before .before .before .before .before .before .bit2 .ensures) in
+    let pen : c .before .before .pen-by .result ≡ penBy w (pick (not (bit w 9)) (bit f 3) (a .b .pen)) = rw (c .before .before .pen-by .ensures, c .before .before .before .before .before .before .before .before .before .pick-bool .ensures, c .before .before .before .before .before .before .before .before .before .before .bit3 .ensures, c .before .before .before .before .before .before .before .before .before .before .before .before .before .bit2 .ensures) in
+    let intensity : c .before .before .before .before .before .before .pick-u83 .result ≡ pick (not (bit w 10)) (bits f 9 11) (a .b .intensity) = rw (c .before .before .before .before .before .before .pick-u83 .ensures, c .before .before .before .before .before .before .before .bits4 .ensures, c .before .before .before .before .before .before .before .before .bit4 .ensures) in
+    let mode : c .before .before .before .before .before .before .before .before .before .before .before .before .before .before .pick-u8 .result ≡ pick (not (bit w 8)) (bits f 6 8) (a .b .mode) = rw (c .before .before .before .before .before .before .before .before .before .before .before .before .before .before .pick-u8 .ensures, c .before .before .before .before .before .before .before .before .before .before .before .before .before .before .before .bits2 .ensures, c .before .before .before .before .before .before .before .before .before .before .before .before .before .before .before .before .bit .ensures) in
     let state : (a .b .datastate || c .before .before .before .before .before .bit5 .result) ≡ (a .b .datastate || bit w 11) = rw (c .before .before .before .before .before .bit5 .ensures) in
-    c .status-set .ensures ∙ (λ i. statusSet (a .b) (address i) (c .before .before .before .before .before2 .ensures i) (scale i) (pen i) (intensity i) (mode i) (state i))))
+    rw (c .status-set .ensures) (λ i. statusSet (a .b) (address i) (c .before .before .before .before .before2 .ensures i) (scale i) (pen i) (intensity i) (mode i) (state i))))

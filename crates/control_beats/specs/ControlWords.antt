@@ -1,5 +1,5 @@
--- Section 'Control words' of 01, with their touches of 'One turn of a run': the beat of each control word. What the words set is in control's and skips'
--- files of this name. Assumes nothing.
+-- Section 'Control words' of 01, with their touches of 'One turn of a run': the beat of each control word. What the words set is in the files of this name of
+-- control, skips and button_skips. Assumes nothing.
 use Prim.Native.Nat.{ℕ}
 use mathlib.Core.Bool.{true, false}
 use lib.Dec.{eqb}

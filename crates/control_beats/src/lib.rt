@@ -2,7 +2,8 @@
 ghost use mathlib.Core.Path.{_≡_};
 ghost use Rattle.beam.specs.declared.Stop.the-variants.{None, Internal};
 ghost use Rattle.words.specs.Words.{pick};
-ghost use Rattle.touches.specs.Touches.{walk, said};
+ghost use Rattle.touches.specs.Touches.{walk};
+ghost use Rattle.touches.specs.Said.{said};
 ghost use Rattle.control_beats.specs.ControlWords.{done, pushAct, jumpBeat, popBeat, miscellaneous, controlBeat};
 use beam::Lit;
 use beam::Outcome;

@@ -27,7 +27,7 @@ use Rattle.endings.specs.Endings.{halted}
 use Rattle.control_beats.specs.ControlWords.{pushAct, jumpBeat, popBeat, controlBeat}
 use Rattle.turns.specs.OneTurn.{unheld, commandBy, commandBeat, unusable, roomFor, turn}
 use Rattle.turns.proofs.Walk.{walk-idle}
-use Rattle.control_sequence.specs.ControlWords.{nextWord, ObeyedLeft, Go, follow, onTurn, obey}
+use Rattle.control_sequence.specs.Sequence.{nextWord, ObeyedLeft, Go, follow, onTurn, obey}
 
 -- WHAT A CONTROL WORD DOES
 

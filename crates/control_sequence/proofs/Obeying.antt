@@ -18,7 +18,8 @@ use Rattle.touches.specs.declared.Got.the-variants.{Word}
 use Rattle.touches.specs.declared.Resting.{Resting}
 use Rattle.touches.specs.declared.Why.{Why}
 use Rattle.touches.specs.declared.Turn.{Turn as Told}
-use Rattle.touches.specs.Touches.{Turn, Fails, Rests, Does, said, fetched, walk, store}
+use Rattle.touches.specs.Touches.{Turn, Fails, Rests, Does, fetched, walk, store}
+use Rattle.touches.specs.Said.{said}
 use Rattle.touches.proofs.Walk.{walk-word}
 use Rattle.touches.proofs.Fine.{Inside, walk-fine}
 use Rattle.endings.specs.declared.Ending.{Ending}
@@ -29,7 +30,7 @@ use Rattle.touches.proofs.Walk.{length-store}
 use Rattle.control_beats.specs.ControlWords.{controlBeat}
 use Rattle.control_beats.proofs.Kept.{control-good}
 use Rattle.turns.specs.OneTurn.{unheld}
-use Rattle.control_sequence.specs.ControlWords.{nextWord, ObeyedLeft, stays, follow, onTurn, obey}
+use Rattle.control_sequence.specs.Sequence.{nextWord, ObeyedLeft, stays, follow, onTurn, obey}
 
 -- the loop's test
 abbrev pub onward : ℕ → Base → Bool

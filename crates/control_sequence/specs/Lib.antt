@@ -1,1 +1,1 @@
-pub mod ControlWords
+pub mod Sequence

@@ -4,7 +4,7 @@ ghost use mathlib.Core.Path.{_≡_};
 ghost use lib.ListN.{length};
 ghost use Rattle.registers.specs.Good.{GoodBase};
 ghost use Rattle.loan.specs.Fair.{Fair};
-ghost use Rattle.control_sequence.specs.ControlWords.{obey, leaves};
+ghost use Rattle.control_sequence.specs.Sequence.{obey, leaves};
 use endings::Ending;
 use endings::Halt;
 use loan::Loan;

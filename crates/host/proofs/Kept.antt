@@ -2,7 +2,7 @@
 -- Assumes nothing.
 use Prim.Native.Nat.{ℕ, _≤_, _<_}
 use mathlib.Core.Path.{_≡_}
-use mathlib.Core.Bool.{true}
+use mathlib.Core.Bool.{true, not}
 use native.Mathlib.Nat.{lt-of-le-of-lt}
 use native.Mathlib.Omega.{arith}
 use lib.Bits.{xor-lt}
@@ -44,7 +44,7 @@ module _ (r : Registers) (g : Good r) where
   resume-good : Good (withMotion (resume (r .base)) (r .motion))
   unfolding resume
   resume-good =
-      pick-case (λ (b : Base). Good (withMotion b (r .motion))) (r .base .running)
+      pick-case (λ (b : Base). Good (withMotion b (r .motion))) (not (r .base .running))
       (λ _. record { base = g .base; motion = g .motion })
       (λ _. record { base = g .base; motion = g .motion })
 

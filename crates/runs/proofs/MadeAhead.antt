@@ -30,13 +30,14 @@ use Rattle.loan.specs.declared.Loan.{Loan}
 use Rattle.loan.specs.Fair.{Fair}
 use Rattle.touches.specs.declared.Act.{Act}
 use Rattle.touches.specs.Touches.{Turn, Fails, Rests, Does, whole, allowed, walk, store}
-use Rattle.turns.specs.OneTurn.{roomFor, turn, Drawing}
+use Rattle.turns.specs.OneTurn.{roomFor, turn}
+use Rattle.turns.specs.Drawing.{Drawing}
 use Rattle.endings.specs.declared.Ending.{Ending}
 use Rattle.endings.specs.declared.Ending.the-variants.{Failed}
 use Rattle.endings.specs.declared.Halt.{Halt}
 use Rattle.endings.specs.declared.Halt.the-variants.{Goes, Ends}
 use Rattle.endings.specs.Endings.{halted}
-use Rattle.control_sequence.specs.ControlWords.{nextWord, ObeyedLeft, follow, onTurn, obey}
+use Rattle.control_sequence.specs.Sequence.{nextWord, ObeyedLeft, follow, onTurn, obey}
 use Rattle.control_sequence.proofs.Bare.{Bare, next-bare, turn-control, reached}
 use Rattle.runs.specs.declared.Ahead.{Ahead}
 use Rattle.runs.specs.Ahead.{AheadLeft, leaves, afterMoves, aheadBy, makeAhead}

@@ -1,5 +1,5 @@
--- What the code makes ahead of a turn: control words, or plain moves, by the definitions of control_sequence and move_sequence. No reader has to believe this:
--- that a run from there is the same run is proved in proofs/MadeAhead.antt. Assumes nothing.
+-- No reader has to believe this file: what the code makes ahead of a turn, control words or plain moves, by the definitions of control_sequence and
+-- move_sequence. That a run from there is the same run is proved in proofs/MadeAhead.antt. Assumes nothing.
 use Prim.Native.Nat.{ℕ, _+_, _-_}
 use mathlib.Core.List.{List}
 use Rattle.registers.specs.declared.Base.{Base}
@@ -9,7 +9,7 @@ use Rattle.registers.specs.declared.Registers.{Registers}
 use Rattle.loan.specs.declared.Loan.{Loan}
 use Rattle.endings.specs.declared.Halt.the-variants.{Goes}
 use Rattle.move_sequence.specs.PlainMoves.{sequence, SequenceLeft}
-use Rattle.control_sequence.specs.ControlWords.{obey, ObeyedLeft}
+use Rattle.control_sequence.specs.Sequence.{obey, ObeyedLeft}
 use Rattle.runs.specs.declared.Ahead.{Ahead}
 
 -- what is left, with the memory and the point list

@@ -1,4 +1,4 @@
--- Words 4 to 7 keep registers in range: a skip's address is a remainder, a bank is six bits, and counting stops at the ends. Assumes nothing.
+-- Words 62 to 67 and 7 keep registers in range: a skip's address is a remainder, and counting stops at the ends. Assumes nothing.
 use Prim.Native.Nat.{ℕ, suc, _<_}
 use mathlib.Core.Bool.{Bool}
 use native.Mathlib.Omega.{arith}
@@ -17,7 +17,6 @@ unfolding skipping addressAfter
 skipping-good b skip g =
     address-set g (pick-case (λ (a : DisplayAddress). a .0 < 32768) skip (λ _. omega arith) (λ _. omega arith))
 
--- a bank is taken by its six bits, so the word keeps its twelve
 pub flag-skip-good : (b : Base) (w : ℕ) → GoodBase b → GoodBase (flagSkip b w)
 unfolding flagSkip
 flag-skip-good b w g = skipping-good b _ g

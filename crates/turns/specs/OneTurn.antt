@@ -1,8 +1,7 @@
 -- Section 'One turn of a run' of 01: the beat that the registers make, and tests 2 to 5 of a turn. How a beat's touches are made is in touches, the beats
 -- of control words are in control_beats. Assumes nothing.
 use Prim.Native.Nat.{ℕ}
-use mathlib.Core.Path.{_≡_}
-use mathlib.Core.Bool.{Bool, true, false, _&&_, _||_}
+use mathlib.Core.Bool.{Bool, false, _&&_, _||_}
 use mathlib.Core.List.{List}
 use lib.Dec.{eqb, leb}
 use lib.ListN.{length}
@@ -10,7 +9,6 @@ use Rattle.words.specs.Words.{pick}
 use Rattle.addresses.specs.Addresses.{addressAfter}
 use Rattle.registers.specs.declared.Base.{Base}
 use Rattle.registers.specs.declared.Registers.{Registers}
-use Rattle.registers.specs.declared.Motion.the-variants.{Nothing}
 use Rattle.registers.specs.With.{withPen, withHold}
 use Rattle.moves.specs.declared.Moving.{Moving}
 use Rattle.moves.specs.declared.Moving.the-variants.{Still, Going}
@@ -78,7 +76,3 @@ roomFor room (Does c) = pick (leb (length (points (c .lit))) room) (Does c) (Fai
 -- tests 2 to 5 of a turn, in order
 unfoldable pub turn : Loan → ℕ → Registers → List ℕ → Turn
 turn l room r m = roomFor room (walk l m (beat r))
-
--- what control words leave to a turn: a motion, a stop request or data state
-abbrev pub Drawing : Registers → Type 0
-Drawing r = r .motion ≡ Nothing → r .base .request ≡ false → r .base .datastate ≡ true

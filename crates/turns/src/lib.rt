@@ -2,8 +2,10 @@
 ghost use mathlib.Core.Path.{_≡_};
 ghost use mathlib.Core.Bool.{true, false};
 ghost use Rattle.moves.specs.DataWords.{GoodLineIn};
-ghost use Rattle.touches.specs.Touches.{Does, whole, walk, said};
-ghost use Rattle.turns.specs.OneTurn.{longBeat, dataBeat, unheld, commandBeat, unusable, idleBeat, roomFor, turn, Drawing};
+ghost use Rattle.touches.specs.Touches.{Does, whole, walk};
+ghost use Rattle.touches.specs.Said.{said};
+ghost use Rattle.turns.specs.OneTurn.{longBeat, dataBeat, unheld, commandBeat, unusable, idleBeat, roomFor, turn};
+ghost use Rattle.turns.specs.Drawing.{Drawing};
 use beam::Lit;
 use beam::Outcome;
 use loan::Loan;

@@ -3,9 +3,10 @@
 use mathlib.Core.Path.{_≡_, refl, sym, ap, _∙_}
 use native.Mathlib.Omega.{arith}
 use borrow.Author.Needs.{needs}
-use Rattle.touches.specs.Touches.{said, walk}
+use Rattle.touches.specs.Touches.{walk}
+use Rattle.touches.specs.Said.{said}
 use Rattle.touches.proofs.Walk.{walk-not}
-use Rattle.control_sequence.specs.ControlWords.{nextWord, obey}
+use Rattle.control_sequence.specs.Sequence.{nextWord, obey}
 use Rattle.control_sequence.proofs.Obeying.{Far, left-some, worded, ends, fails, rests, fine, goes, stops}
 use Rattle.control_sequence.proofs.obey.Statement.{statement}
 use Rattle.control_sequence.proofs.obey.Tie as tie

@@ -8,7 +8,7 @@ use Rattle.registers.specs.declared.Motion.{Motion}
 use Rattle.registers.specs.declared.Motion.the-variants.{Line, Bytes}
 use Rattle.registers.specs.Good.{Good}
 use Rattle.move_sequence.specs.PlainMoves.{SequenceLeft}
-use Rattle.control_sequence.specs.ControlWords.{ObeyedLeft}
+use Rattle.control_sequence.specs.Sequence.{ObeyedLeft}
 use Rattle.runs.specs.Ahead.{afterWords, afterMoves, aheadBy}
 use Rattle.runs.proofs.MadeAhead.{moves-left}
 use Rattle.runs.proofs.make_ahead.Statement.{statement}

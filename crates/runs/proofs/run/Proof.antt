@@ -7,7 +7,7 @@ use native.Mathlib.Omega.{arith}
 use lib.ListN.{length}
 use borrow.Author.Needs.{needs}
 use denote.Ref.{now}
-use Rattle.touches.specs.Touches.{said}
+use Rattle.touches.specs.Said.{said}
 use Rattle.turns.specs.OneTurn.{turn}
 use Rattle.runs.specs.Ahead.{leaves}
 use Rattle.runs.specs.Runs.{run}

@@ -1,5 +1,5 @@
--- Control words one after another: the command beats of 01's section 'One turn of a run' as long as no motion is under way, no stop is asked for and the
--- state is control state. That the turns of a run make the same is proved in runs. Assumes nothing.
+-- No reader has to believe this file: control words one after another, as the code makes them ahead of a turn, as long as no motion is under way, no stop is
+-- asked for and the state is control state. That the turns of a run make the same is proved in runs (proofs/MadeAhead.antt). Assumes nothing.
 use Prim.Native.Nat.{ℕ, zero, suc}
 use mathlib.Core.Bool.{_||_}
 use mathlib.Core.List.{List}

@@ -14,7 +14,7 @@
 extern "C" {
 #endif
 
-/* The places of a row of registers: 25 registers, the kind of motion, and the motion's numbers. */
+/* The places of a row of registers: 25 registers, the kind of motion, and the motion's numbers. A number outside the limits that stand here is refusal 4. */
 enum eveglome_place {
     EVEGLOME_ADDRESS = 0,             /* display address, up to 32,767 */
     EVEGLOME_POINTER = 1,             /* pushdown pointer, up to 4,095 */
@@ -42,17 +42,22 @@ enum eveglome_place {
     EVEGLOME_RUNNING = 23,
     EVEGLOME_STOP_REQUEST = 24,
     EVEGLOME_MOTION = 25,             /* 0 nothing, 1 a line, 2 bytes; what its kind does not use is not looked at, and written 0 */
-    EVEGLOME_LINE_MINUS_Y = 26,
+
+    /* A line, only in data state and modes 2, 3, 4. */
+    EVEGLOME_LINE_MINUS_Y = 26,       /* signs, lit and escape: 0 or 1 */
     EVEGLOME_LINE_MINUS_X = 27,
-    EVEGLOME_LINE_MAGNITUDE_Y = 28,
+    EVEGLOME_LINE_MAGNITUDE_Y = 28,   /* magnitudes up to 1,023 */
     EVEGLOME_LINE_MAGNITUDE_X = 29,
-    EVEGLOME_LINE_MOVES = 30,         /* 01's n */
-    EVEGLOME_LINE_DONE = 31,          /* 01's k */
+    EVEGLOME_LINE_MOVES = 30,         /* 01's n: the larger magnitude, which is at least 1 */
+    EVEGLOME_LINE_DONE = 31,          /* 01's k: below n */
     EVEGLOME_LINE_LIT = 32,
     EVEGLOME_LINE_ESCAPE = 33,
-    EVEGLOME_BYTES_WORD = 26,
-    EVEGLOME_BYTES_SIDE = 27,         /* 0 the left byte, 1 the right one */
-    EVEGLOME_BYTES_MOVES_LEFT = 28,
+
+    /* Bytes of an increment word, only in data state and mode 1. */
+    EVEGLOME_BYTES_WORD = 26,         /* 12 bits */
+    EVEGLOME_BYTES_SIDE = 27,         /* 0 the left byte, 1 the right one, which only if the left byte does not escape */
+    EVEGLOME_BYTES_MOVES_LEFT = 28,   /* 1 to 3, and no more than that byte asks */
+
     EVEGLOME_ROW = 34                 /* how many places there are */
 };
 

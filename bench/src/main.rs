@@ -11,14 +11,13 @@ use std::process::ExitCode;
 use std::time::{Duration, Instant};
 
 use lessons::{Lesson, BEATS};
+use second::Ending;
 use sides::{Desk, Side, SIDES};
 
 /// Each round runs every side once, beginning with another side than the round before.
 const ROUNDS: usize = 120;
 /// The proved run may take at most this many times as long as either Rust side.
 const BAR: f64 = 2.0;
-/// The ending of a run whose budget is spent.
-const BUDGET_SPENT: u32 = 11;
 /// The copies that `--once` lays out however many runs it makes, so that the difference between
 /// two counts of instructions is runs and nothing else.
 const COPIES: usize = 3;
@@ -166,7 +165,8 @@ fn rounds(lesson: &Lesson) -> (u32, Vec<Times>) {
             pair[0].assert_same(&pair[1]);
         }
         let [ending, beats, lit] = desks[0].answer;
-        assert_eq!([ending, beats], [BUDGET_SPENT, BEATS], "{}", lesson.name);
+        let spent = [Ending::BudgetSpent.number(), BEATS];
+        assert_eq!([ending, beats], spent, "{}", lesson.name);
         points = lit;
     }
     for times in &mut all {

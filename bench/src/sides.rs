@@ -32,23 +32,27 @@ impl Side {
     }
 }
 
-/// How many numbers a row of registers has, as the C interface takes it.
-const ROW: usize = 34;
-
-/// The row of registers: their numbers in the order of the replay format, then zeros.
-fn row_of(registers: &Registers) -> [u16; ROW] {
+/// The numbers of the registers in the order of the replay format, and some zeros behind them.
+fn numbers_of(registers: &Registers) -> Vec<u16> {
     let case = Case::Operation {
         registers: *registers,
         operation: 0,
         operand: 0,
     };
     let line = write_case(&case);
-    let numbers = line.split(' ').filter_map(|number| number.parse().ok());
-    let mut row = [0; ROW];
-    for (place, number) in row.iter_mut().zip(numbers) {
+    line.split(' ')
+        .filter_map(|number| number.parse().ok())
+        .collect()
+}
+
+/// The row of the registers, as the proved side takes it.
+#[cfg(feature = "proved")]
+fn row_of(registers: &Registers) -> eveglome::Row {
+    let mut row = [0; eveglome::place::ROW];
+    for (place, number) in row.iter_mut().zip(numbers_of(registers)) {
         *place = number;
     }
-    row
+    eveglome::Row(row)
 }
 
 /// What a run of one side is given, and then what it left.
@@ -69,7 +73,7 @@ impl Desk {
             side,
             registers: lesson.registers,
             #[cfg(feature = "proved")]
-            row: eveglome::Row(row_of(&lesson.registers)),
+            row: row_of(&lesson.registers),
             memory: lesson.memory.clone(),
             points: vec![0; ROOM],
             answer: [0; 3],
@@ -81,7 +85,7 @@ impl Desk {
         self.registers = lesson.registers;
         #[cfg(feature = "proved")]
         {
-            self.row = eveglome::Row(row_of(&lesson.registers));
+            self.row = row_of(&lesson.registers);
         }
         self.memory.copy_from_slice(&lesson.memory);
         self.points.fill(0);
@@ -111,13 +115,18 @@ impl Desk {
         self.answer = [answer.ending.number(), answer.beats, answer.points];
     }
 
-    /// The registers that the run left.
-    fn registers_left(&self) -> [u16; ROW] {
-        match self.side {
+    /// The numbers of the registers that the run left, up to the last that is not 0: how many
+    /// zeros stand behind it differs from side to side.
+    fn registers_left(&self) -> Vec<u16> {
+        let mut numbers = match self.side {
             #[cfg(feature = "proved")]
-            Side::Proved => self.row.0,
-            _ => row_of(&self.registers),
+            Side::Proved => self.row.0.to_vec(),
+            _ => numbers_of(&self.registers),
+        };
+        while numbers.last() == Some(&0) {
+            numbers.pop();
         }
+        numbers
     }
 
     /// Panics where another side left anything else.

@@ -4,9 +4,12 @@
 //! call leaves registers, memory and points as they were. The exact rules are document 01's, and
 //! `../eveglome.h` says what each number means.
 
+#[cfg(test)]
+mod meaning;
 mod numbers;
 
-pub use numbers::{ending, place};
+use numbers::{answer, loan};
+pub use numbers::{ending, place, MEMORY};
 
 /// Registers as a row of numbers, by the places of [`place`].
 #[derive(Clone, Copy, Debug, PartialEq, Eq)]
@@ -25,10 +28,19 @@ impl Loan {
     /// All of memory lent.
     pub const ALL: Loan = Loan {
         file_low: 0,
-        file_high: 32_768,
+        file_high: MEMORY as u16,
         list_low: 0,
-        list_high: 32_768,
+        list_high: MEMORY as u16,
     };
+
+    fn numbers(self) -> [u16; loan::LOAN] {
+        let mut numbers = [0; loan::LOAN];
+        numbers[loan::FILE_LOW] = self.file_low;
+        numbers[loan::FILE_HIGH] = self.file_high;
+        numbers[loan::LIST_LOW] = self.list_low;
+        numbers[loan::LIST_HIGH] = self.list_high;
+        numbers
+    }
 }
 
 /// What a call answers. A refusal has word 0, beats 0 and points 0.
@@ -45,12 +57,12 @@ pub struct Answer {
 }
 
 impl Answer {
-    fn of([ending, word, beats, points]: [u32; 4]) -> Answer {
+    fn of(numbers: [u32; answer::ANSWER]) -> Answer {
         Answer {
-            ending,
-            word,
-            beats,
-            points,
+            ending: numbers[answer::ENDING],
+            word: numbers[answer::WORD],
+            beats: numbers[answer::BEATS],
+            points: numbers[answer::POINTS],
         }
     }
 }
@@ -62,17 +74,17 @@ extern "C" {
         registers: &mut [u16; place::ROW],
         operation: u32,
         operand: u32,
-        answer: &mut [u32; 4],
+        answer: &mut [u32; answer::ANSWER],
     );
     fn eveglome_run(
         registers: &mut [u16; place::ROW],
-        loan: &[u16; 4],
+        loan: &[u16; loan::LOAN],
         memory: *mut u16,
         memory_length: usize,
         points: *mut u32,
         points_length: usize,
         budget: u32,
-        answer: &mut [u32; 4],
+        answer: &mut [u32; answer::ANSWER],
     );
 }
 
@@ -86,11 +98,11 @@ pub fn fresh() -> Row {
 
 /// Makes a host operation on the registers.
 pub fn operate(row: &mut Row, operation: u32, operand: u32) -> Answer {
-    let mut answer = [0; 4];
+    let mut numbers = [0; answer::ANSWER];
     // SAFETY: the call takes any numbers, and is proved to write the row and the answer and
     // nothing else.
-    unsafe { eveglome_operate(&mut row.0, operation, operand, &mut answer) };
-    Answer::of(answer)
+    unsafe { eveglome_operate(&mut row.0, operation, operand, &mut numbers) };
+    Answer::of(numbers)
 }
 
 /// Runs the display for at most `budget` beats. The points are filled from the first.
@@ -101,22 +113,21 @@ pub fn run(
     points: &mut [u32],
     budget: u32,
 ) -> Answer {
-    let ranges = [loan.file_low, loan.file_high, loan.list_low, loan.list_high];
-    let mut answer = [0; 4];
+    let mut numbers = [0; answer::ANSWER];
     // SAFETY: each pointer stands with its own slice's length, a slice's pointer is never null,
     // and `&mut` keeps the lists apart. The call takes any numbers, and is proved to stay within
     // the lengths.
     unsafe {
         eveglome_run(
             &mut row.0,
-            &ranges,
+            &loan.numbers(),
             memory.as_mut_ptr(),
             memory.len(),
             points.as_mut_ptr(),
             points.len(),
             budget,
-            &mut answer,
+            &mut numbers,
         )
     };
-    Answer::of(answer)
+    Answer::of(numbers)
 }

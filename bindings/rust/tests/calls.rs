@@ -1,8 +1,6 @@
 //! The calls, done and refused, through the safe interface.
 
-use eveglome::{ending, fresh, operate, place, run, Answer, Loan, Row};
-
-const MEMORY: usize = 32_768;
+use eveglome::{ending, fresh, operate, place, run, Answer, Loan, Row, MEMORY};
 
 /// An ending with no word, no beats and no points, as every refusal is.
 fn just(ending: u32) -> Answer {

@@ -7,14 +7,14 @@ use second::replay::{answer_case, write_case, Case, RunCase};
 
 const CASES: usize = 5_000;
 
-/// How many numbers of a row the format writes, by the kind of motion.
+/// How many numbers of a row the format writes: up to the last place of the kind of motion.
 fn written(kind: u16) -> usize {
-    place::MOTION
-        + match kind {
-            0 => 1,
-            1 => 9,
-            _ => 4,
-        }
+    let last = match kind {
+        0 => place::MOTION,
+        1 => place::LINE_ESCAPE,
+        _ => place::BYTES_MOVES_LEFT,
+    };
+    last + 1
 }
 
 /// The row of the registers that a case begins with.

@@ -1,0 +1,243 @@
+/* Holds the names of eveglome.h to their meaning: makes every row of meaning.table, whose path it is given, and asks that every name has a row. Writes what
+   is wrong, with the name, and then ends with 1. */
+#include "eveglome.h"
+#include <stdio.h>
+#include <stdlib.h>
+#include <string.h>
+
+/* A name, the number that the header gives it, and whether a row shows it. */
+struct name {
+    const char *text;
+    size_t number;
+    int shown;
+};
+
+#define NAME(text) {#text, EVEGLOME_##text, 0}
+#define LAST {NULL, 0, 0}
+
+static struct name places[] = {
+    NAME(ADDRESS), NAME(POINTER), NAME(X), NAME(Y), NAME(STATE), NAME(MODE), NAME(SCALE), NAME(INTENSITY), NAME(PEN_ENABLE), NAME(PEN_HOLD),
+    NAME(PEN_SENSE), NAME(BLINK), NAME(IDLE), NAME(BUTTONS), NAME(HIT_1), NAME(HIT_2), NAME(INTERNAL_STOP_FLAG), NAME(EXTERNAL_STOP_FLAG),
+    NAME(VERTICAL_EDGE_FLAG), NAME(HORIZONTAL_EDGE_FLAG), NAME(PEN_FLAG), NAME(MANUAL_INTERRUPT_FLAG), NAME(CONDITIONS), NAME(RUNNING),
+    NAME(STOP_REQUEST), NAME(MOTION), NAME(LINE_MINUS_Y), NAME(LINE_MINUS_X), NAME(LINE_MAGNITUDE_Y), NAME(LINE_MAGNITUDE_X), NAME(LINE_MOVES),
+    NAME(LINE_DONE), NAME(LINE_LIT), NAME(LINE_ESCAPE), NAME(BYTES_WORD), NAME(BYTES_SIDE), NAME(BYTES_MOVES_LEFT), LAST};
+
+static struct name loans[] = {NAME(FILE_LOW), NAME(FILE_HIGH), NAME(LIST_LOW), NAME(LIST_HIGH), LAST};
+
+static struct name answers[] = {NAME(ENDING), NAME(WORD), NAME(BEATS), NAME(POINTS), LAST};
+
+static struct name endings[] = {
+    NAME(DONE), NAME(MEMORY_LENGTH), NAME(BUDGET_TOO_LARGE), NAME(BAD_LOAN), NAME(REGISTERS_OUT_OF_RANGE), NAME(UNKNOWN_OPERATION),
+    NAME(OPERAND_OUT_OF_RANGE), NAME(NOT_RUNNING), NAME(BUDGET_SPENT), NAME(INTERNAL_STOP), NAME(EXTERNAL_STOP), NAME(EDGE), NAME(UNUSABLE_MODE),
+    NAME(OUTSIDE_LOAN), NAME(WIDE_WORD), NAME(POINTS_FULL), LAST};
+
+/* What a call is lent. Each list has room to spare, so that a place with a wrong number stays inside it. */
+enum { SPARE = 64, ROOM = 8, TEXT = 1024, PARTS = 64 };
+static uint16_t registers[EVEGLOME_ROW + SPARE];
+static uint16_t loan[EVEGLOME_LOAN + SPARE];
+static uint16_t memory[EVEGLOME_MEMORY + SPARE];
+static uint32_t points[ROOM];
+static uint32_t answer[EVEGLOME_ANSWER + SPARE];
+static size_t memory_length, points_length;
+
+/* The row that is made, and whether anything was wrong. */
+static unsigned line;
+static char shown[TEXT];
+static int wrong;
+
+static void table_fault(const char *what, const char *text) {
+    printf("line %u of the table: %s: %s\n", line, what, text);
+    exit(2);
+}
+
+static size_t number_of(const char *text) {
+    char *end;
+    unsigned long number = strtoul(text, &end, 0);
+    if (end == text || *end) table_fault("no number", text);
+    return (size_t)number;
+}
+
+static struct name *find(struct name *names, const char *text) {
+    for (; names->text; names++)
+        if (strcmp(names->text, text) == 0) return names;
+    return NULL;
+}
+
+/* Cuts the text at the first mark and answers what stood before it; then the text is what stands behind it, or null. */
+static char *cut(char **text, char mark) {
+    char *start = *text, *at = strchr(start, mark);
+    *text = at ? at + 1 : NULL;
+    if (at) *at = 0;
+    return start;
+}
+
+/* The words between blanks: how many there are. */
+static size_t split(char *text, char *parts[PARTS]) {
+    size_t count = 0;
+    while (text) {
+        char *part = cut(&text, ' ');
+        if (*part == 0) continue;
+        if (count == PARTS) table_fault("too long", part);
+        parts[count++] = part;
+    }
+    return count;
+}
+
+static void set(char *setting) {
+    char *text = setting, *key = cut(&text, '=');
+    size_t number = number_of(text ? text : "");
+    struct name *name;
+    if (*key == '@') {
+        size_t address = number_of(key + 1);
+        if (address >= EVEGLOME_MEMORY) table_fault("no such address", key);
+        memory[address] = (uint16_t)number;
+    } else if (strcmp(key, "memory") == 0 && number <= EVEGLOME_MEMORY + SPARE)
+        memory_length = number;
+    else if (strcmp(key, "room") == 0 && number <= ROOM)
+        points_length = number;
+    else if ((name = find(places, key)))
+        registers[name->number] = (uint16_t)number;
+    else if ((name = find(loans, key)))
+        loan[name->number] = (uint16_t)number;
+    else
+        table_fault("cannot be set", key);
+}
+
+/* A point of the table, x,y,intensity,blink, as the point list has it. */
+static uint32_t point_of(char *text) {
+    static const unsigned shifts[] = {0, 10, 20, 23};
+    uint32_t point = 0;
+    for (size_t i = 0; i < 4; i++) {
+        if (!text) table_fault("no point in", shown);
+        point += (uint32_t)number_of(cut(&text, ',')) << shifts[i];
+    }
+    return point;
+}
+
+static size_t ending_of(const char *text) {
+    struct name *name = find(endings, text);
+    if (!name) table_fault("no ending", text);
+    return name->number;
+}
+
+static void call(const char *clause, char *parts[], size_t count) {
+    size_t told = 0, ending = EVEGLOME_DONE, word = 0, beats = 0, lit = 0;
+    int right = 1;
+    while (told < count && strcmp(parts[told], "gives") != 0) told++;
+    if (told == 0 || told > 2 || told + 1 >= count) table_fault("no call", clause);
+
+    if (strcmp(parts[0], "run") == 0) {
+        if (told != 2 || count < 5) table_fault("no run", clause);
+        ending = ending_of(parts[told + 1]);
+        beats = number_of(parts[told + 2]);
+        lit = count - (told + 3);
+        eveglome_run(registers, loan, memory, memory_length, points, points_length, (uint32_t)number_of(parts[1]), answer);
+        for (size_t i = 0; i < lit && i < ROOM; i++) right &= points[i] == point_of(parts[told + 3 + i]);
+    } else {
+        if (told + 2 != count) table_fault("no operation", clause);
+        if (*parts[told + 1] >= '0' && *parts[told + 1] <= '9')
+            word = number_of(parts[told + 1]);
+        else
+            ending = ending_of(parts[told + 1]);
+        eveglome_operate(registers, (uint32_t)number_of(parts[0]), told == 2 ? (uint32_t)number_of(parts[1]) : 0, answer);
+    }
+
+    right &= answer[EVEGLOME_ENDING] == ending && answer[EVEGLOME_WORD] == word && answer[EVEGLOME_BEATS] == beats && answer[EVEGLOME_POINTS] == lit;
+    if (right) return;
+    printf("line %u, %s: \"%s\", but it gave ending %lu, word %lo octal, beats %lu, points %lu", line, shown, clause,
+           (unsigned long)answer[EVEGLOME_ENDING], (unsigned long)answer[EVEGLOME_WORD], (unsigned long)answer[EVEGLOME_BEATS],
+           (unsigned long)answer[EVEGLOME_POINTS]);
+    for (size_t i = 0; i < answer[EVEGLOME_POINTS] && i < ROOM; i++)
+        printf(" %u,%u,%u,%u", (unsigned)(points[i] % 1024), (unsigned)(points[i] / 1024 % 1024), (unsigned)(points[i] >> 20 & 7),
+               (unsigned)(points[i] >> 23));
+    printf("\n");
+    wrong = 1;
+}
+
+static void make_row(char *text) {
+    char *names = cut(&text, ':'), *parts[PARTS];
+    strcpy(shown, names);
+    for (size_t i = 0, count = split(names, parts); i < count; i++) {
+        struct name *lists[] = {places, loans, answers, endings}, *name = NULL;
+        for (size_t list = 0; list < 4 && !name; list++) name = find(lists[list], parts[i]);
+        if (!name) table_fault("no such name", parts[i]);
+        name->shown = 1;
+    }
+
+    eveglome_fresh(registers);
+    memset(loan, 0, sizeof loan);
+    loan[EVEGLOME_FILE_HIGH] = loan[EVEGLOME_LIST_HIGH] = EVEGLOME_MEMORY;
+    memset(memory, 0, sizeof memory);
+    memory_length = EVEGLOME_MEMORY;
+    points_length = ROOM;
+    while (text) {
+        char *clause = cut(&text, ';'), whole[TEXT];
+        clause += strspn(clause, " ");
+        strcpy(whole, clause);
+        size_t count = split(clause, parts);
+        if (count > 0 && strchr(parts[0], '='))
+            for (size_t i = 0; i < count; i++) set(parts[i]);
+        else
+            call(whole, parts, count);
+    }
+}
+
+/* Every name has a row, and the names have every number below the count. */
+static void ask_for_rows(const struct name *names, size_t count, const char *counted) {
+    for (size_t i = 0; names[i].text; i++)
+        if (!names[i].shown) {
+            printf("%s: no row shows it\n", names[i].text);
+            wrong = 1;
+        }
+    for (size_t number = 0; number < count; number++) {
+        size_t i = 0;
+        while (names[i].text && names[i].number != number) i++;
+        if (!names[i].text) {
+            printf("%s: there are %lu places, but none of the names is place %lu\n", counted, (unsigned long)count, (unsigned long)number);
+            wrong = 1;
+        }
+    }
+    for (size_t i = 0; count > 0 && names[i].text; i++)
+        if (names[i].number >= count) {
+            printf("%s: there are %lu places, but %s is place %lu\n", counted, (unsigned long)count, names[i].text, (unsigned long)names[i].number);
+            wrong = 1;
+        }
+}
+
+/* Fresh registers and the answer of a read of them are all 0: as many numbers as are written over a list of other numbers. */
+static void count_places(void) {
+    size_t row = 0, told = 0;
+    memset(registers, 0xff, sizeof registers);
+    memset(answer, 0xff, sizeof answer);
+    eveglome_fresh(registers);
+    eveglome_operate(registers, 20, 0, answer);
+    while (row < EVEGLOME_ROW + SPARE && registers[row] == 0) row++;
+    while (told < EVEGLOME_ANSWER + SPARE && answer[told] == 0) told++;
+    if (row != EVEGLOME_ROW || told != EVEGLOME_ANSWER) {
+        printf("ROW, ANSWER: a row has %lu numbers, an answer %lu\n", (unsigned long)row, (unsigned long)told);
+        wrong = 1;
+    }
+}
+
+int main(int count, char **arguments) {
+    static char text[TEXT];
+    FILE *table = count == 2 ? fopen(arguments[1], "r") : NULL;
+    if (!table) {
+        printf("usage: meaning TABLE\n");
+        return 2;
+    }
+    count_places();
+    while (fgets(text, sizeof text, table)) {
+        char *end = strchr(text, '\n');
+        line++;
+        if (!end) table_fault("too long, or unfinished", text);
+        *end = 0;
+        if (*text && *text != '#') make_row(text);
+    }
+    fclose(table);
+    ask_for_rows(places, EVEGLOME_ROW, "ROW");
+    ask_for_rows(loans, EVEGLOME_LOAN, "LOAN");
+    ask_for_rows(answers, EVEGLOME_ANSWER, "ANSWER");
+    ask_for_rows(endings, 0, "endings");
+    return wrong;
+}

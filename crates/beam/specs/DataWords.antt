@@ -3,10 +3,11 @@
 use Prim.Native.Nat.{ℕ}
 use mathlib.Core.Bool.{Bool, not, _&&_, _||_}
 use mathlib.Core.List.{List, [], _∷_}
-use Rattle.words.specs.Words.{bit, pick}
+use Rattle.words.specs.Words.{bit, bits, pick}
 use Rattle.paper.specs.declared.Reached.{Reached}
 use Rattle.paper.specs.DataWords.{sectorZero, point}
 use Rattle.registers.specs.declared.Base.{Base}
+use Rattle.registers.specs.With.{withX, withY, withDatastate, withRunning, withHorizontal, withVertical}
 use Rattle.registers.specs.declared.Motion.{Motion}
 use Rattle.registers.specs.declared.Motion.the-variants.{Nothing}
 use Rattle.beam.specs.declared.Lit.{Lit}
@@ -14,9 +15,12 @@ use Rattle.beam.specs.declared.Lit.the-variants.{Dark, Point}
 use Rattle.beam.specs.declared.Stop.the-variants.{None, Edge}
 use Rattle.beam.specs.declared.Outcome.{Outcome}
 
--- what the setter of the code sets, every other register as it was
-abbrev pub beamSet : Base → ℕ → ℕ → Bool → Bool → Bool → Bool → Base
-beamSet b u v d h k r = record { x = u; y = v; conditions = b .conditions; address = b .address; pointer = b .pointer; buttons = b .buttons; scale = b .scale; intensity = b .intensity; mode = b .mode; datastate = d; running = r; horizontal = h; vertical = k; blink = b .blink; pen = b .pen; hold = b .hold; request = b .request; sense = b .sense; idle = b .idle; hit1 = b .hit1; hit2 = b .hit2; internal = b .internal; external = b .external; penflag = b .penflag; manual = b .manual }
+-- the dimension's two condition bits: initial-condition bits 4, 5 for y, 6, 7 for x
+abbrev pub fieldX : Base → ℕ
+fieldX b = bits (b .conditions) 6 7
+
+abbrev pub fieldY : Base → ℕ
+fieldY b = bits (b .conditions) 4 5
 
 -- a point lights if the word or byte asks it or condition bit 8 is set, the beam after the beat is in sector 0, and the beat violated nothing (H)
 unfoldable pub litAt : Base → ℕ → ℕ → Bool → Bool → Lit
@@ -28,6 +32,21 @@ abbrev pub points : Lit → List ℕ
 points Dark = []
 points (Point p) = p ∷ []
 
+-- the move stands, wrapped
+abbrev pub beamAt : Base → ℕ → ℕ → Base
+beamAt b x y = withY (withX b x) y
+
+-- a violation sets that axis's flag and stops
+abbrev pub edgeStopped : Base → Reached → Reached → Bool → Base
+edgeStopped b x y edge =
+    withRunning
+    (withVertical (withHorizontal b (b .horizontal || edge && x .violated)) (b .vertical || edge && y .violated))
+    (b .running && not edge)
+
+-- an escape leaves data state
+abbrev pub escaped : Base → Bool → Base
+escaped b escape = withDatastate b (b .datastate && not escape)
+
 -- the beam arrives: unless condition bit 9 is set, a violation sets that axis's flag and stops; the move stands, wrapped; an escape takes effect, an edge
 -- stop included
 unfoldable pub arrived : Base → Motion → Reached → Reached → Bool → Bool → Outcome
@@ -35,27 +54,11 @@ arrived b m x y asked escape =
     let violated = x .violated || y .violated in
     let edge = violated && not (bit (b .conditions) 9) in
     record {
-      registers =
-          record {
-            base =
-                beamSet b (x .value) (y .value) (b .datastate && not escape) (b .horizontal || edge && x .violated)
-                (b .vertical || edge && y .violated)
-                (b .running && not edge);
-            motion = m;
-          };
+      registers = record { base = escaped (edgeStopped (beamAt b (x .value) (y .value)) x y edge) escape; motion = m };
       lit = litAt b (x .value) (y .value) asked violated;
       stop = pick edge Edge None;
     }
 
 -- vector continue: until a move would violate; that beat moves nothing, lights nothing, sets no flag and ends the command
 unfoldable pub stillEnd : Base → Bool → Outcome
-stillEnd b escape =
-    record {
-      registers =
-          record {
-            base = beamSet b (b .x) (b .y) (b .datastate && not escape) (b .horizontal) (b .vertical) (b .running);
-            motion = Nothing;
-          };
-      lit = Dark;
-      stop = None;
-    }
+stillEnd b escape = record { registers = record { base = escaped b escape; motion = Nothing }; lit = Dark; stop = None }

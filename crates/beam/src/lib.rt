@@ -1,7 +1,8 @@
 // Where a beat leaves the beam: the point that it lights, the edge that stops it, the registers as it arrives.
 ghost use mathlib.Core.Path.{_≡_};
 ghost use Rattle.words.specs.Words.{pick};
-ghost use Rattle.beam.specs.DataWords.{beamSet, litAt, arrived, stillEnd};
+ghost use Rattle.beam.specs.DataWords.{fieldX, fieldY, litAt, arrived, stillEnd};
+ghost use Rattle.beam.specs.Setters.{beamSet};
 ghost use Rattle.beam.specs.declared.Stop.the-variants.{None, Edge};
 use paper::Reached;
 use registers::Base;
@@ -48,6 +49,19 @@ fn beam_set(
         running,
         ..b
     }
+}
+
+// The two condition bits of each axis's dimension.
+pub fn field_x(b: Base) -> u16
+    ensures { λ r. ⌜ r ≡ fieldX b ⌝ }
+{
+    words::bits(b.conditions, 6, 7)
+}
+
+pub fn field_y(b: Base) -> u16
+    ensures { λ r. ⌜ r ≡ fieldY b ⌝ }
+{
+    words::bits(b.conditions, 4, 5)
 }
 
 // The point that a beat lights where the beam arrives.

@@ -1,12 +1,11 @@
 -- The command beat of a data word leaves registers in range, and the motion that it begins is one of its mode. Assumes nothing.
 use Prim.Native.Nat.{ℕ, _≤_, _<_}
 use mathlib.Core.Path.{_≡_, refl}
-use mathlib.Core.Bool.{Bool, true}
+use mathlib.Core.Bool.{Bool, true, not}
 use native.Mathlib.Nat.{le-refl}
 use native.Mathlib.Omega.{arith}
 use borrow.Author.Tests.{eqb-false}
 use Rattle.words.proofs.Laws.{pick-case}
-use Rattle.addresses.specs.declared.DisplayAddress.{DisplayAddress}
 use Rattle.addresses.specs.Addresses.{addressAfter}
 use Rattle.paper.proofs.Moves.{moved-small}
 use Rattle.registers.specs.declared.Base.{Base}
@@ -14,18 +13,17 @@ use Rattle.registers.specs.declared.LineMotion.{LineMotion}
 use Rattle.registers.specs.declared.Motion.the-variants.{Nothing}
 use Rattle.registers.specs.Registers.{larger}
 use Rattle.registers.specs.Good.{GoodBase, Good}
-use Rattle.registers.specs.With.{withAddress}
 use Rattle.registers.proofs.Setting.{address-set}
 use Rattle.beam.specs.declared.Outcome.{Outcome}
 use Rattle.beam.proofs.Kept.{arrived-good}
 use Rattle.moves.proofs.Kept.{some-asked}
-use Rattle.drawing.specs.DataWords.{placed, point, increment, vectorLine, shortLine, begun, vector, shortVector, graphplot}
+use Rattle.drawing.specs.DataWords.{passing, placed, point, increment, vectorLine, shortLine, begun, vector, shortVector, graphplot}
 
 placed-small : (w old : ℕ) (inhibit : Bool) → old < 8192 → placed w old inhibit .value < 8192
 unfolding placed
-placed-small w old inhibit h = pick-case (λ (n : ℕ). n < 8192) inhibit (λ _. h) (λ _. omega arith)
+placed-small w old inhibit h = pick-case (λ (n : ℕ). n < 8192) (not inhibit) (λ _. omega arith) (λ _. h)
 
-passed : (b : Base) (j : ℕ) → GoodBase b → GoodBase (withAddress b (addressAfter (b .address) j))
+passed : (b : Base) (j : ℕ) → GoodBase b → GoodBase (passing b j)
 unfolding addressAfter
 passed b j g = address-set g (omega arith)
 
@@ -49,25 +47,24 @@ increment-good b w g d m h =
     }
 
 -- a line is begun only where it has a move to make
-begun-good : (b : Base) (a : DisplayAddress) (l : LineMotion) →
-    GoodBase b → b .datastate ≡ true → 2 ≤ b .mode → b .mode ≤ 4 → a .0 < 32768 →
+begun-good : (b : Base) (l : LineMotion) → GoodBase b → b .datastate ≡ true → 2 ≤ b .mode → b .mode ≤ 4 →
     l .magx < 1024 → l .magy < 1024 → l .moves ≡ larger (l .magx) (l .magy) → l .done ≡ 0 →
-    Good (begun b a l .registers)
+    Good (begun b l .registers)
 unfolding begun
-begun-good b a l g d low high h hx hy n k =
-    pick-case (λ (q : Outcome). Good (q .registers)) _ (λ _. record { base = address-set g h; motion = tt })
+begun-good b l g d low high hx hy n k =
+    pick-case (λ (q : Outcome). Good (q .registers)) _ (λ _. record { base = g; motion = tt })
     (λ e. let some = eqb-false (l .moves) 0 e in
     record {
-      base = address-set g h;
+      base = g;
       motion = (d, low, high, record { magx = hx; magy = hy; larger = n; some = omega (arith, some); done = omega (arith, some) });
     })
 
 pub vector-good : (b : Base) (w v : ℕ) → GoodBase b → b .datastate ≡ true → 2 ≤ b .mode → b .mode ≤ 4 → Good (vector b w v .registers)
 unfolding vector vectorLine
 vector-good b w v g d low high =
-    begun-good b _ (vectorLine w v) g d low high (passed b 2 g .address) (omega arith) (omega arith) refl refl
+    begun-good _ (vectorLine w v) (passed b 2 g) d low high (omega arith) (omega arith) refl refl
 
 pub short-vector-good : (b : Base) (w : ℕ) → GoodBase b → b .datastate ≡ true → 2 ≤ b .mode → b .mode ≤ 4 → Good (shortVector b w .registers)
 unfolding shortVector shortLine
 short-vector-good b w g d low high =
-    begun-good b _ (shortLine w) g d low high (passed b 1 g .address) (omega arith) (omega arith) refl refl
+    begun-good _ (shortLine w) (passed b 1 g) d low high (omega arith) (omega arith) refl refl

@@ -4,7 +4,6 @@ use Prim.Native.Nat.{ℕ, _+_, _*_, _/_}
 use mathlib.Core.Bool.{Bool, true, false, not, _&&_}
 use lib.Dec.{eqb}
 use Rattle.words.specs.Words.{bit, bits, pick}
-use Rattle.addresses.specs.declared.DisplayAddress.{DisplayAddress}
 use Rattle.addresses.specs.Addresses.{addressAfter}
 use Rattle.paper.specs.declared.Reached.{Reached}
 use Rattle.paper.specs.DataWords.{distance, dimension, moved}
@@ -13,33 +12,35 @@ use Rattle.registers.specs.declared.LineMotion.{LineMotion}
 use Rattle.registers.specs.declared.Motion.{Motion}
 use Rattle.registers.specs.declared.Motion.the-variants.{Nothing, Line, Bytes}
 use Rattle.registers.specs.Registers.{larger, byteAt, movesAsked}
-use Rattle.registers.specs.With.{withAddress, withDatastate}
+use Rattle.registers.specs.With.{withAddress}
 use Rattle.beam.specs.declared.Lit.the-variants.{Dark}
 use Rattle.beam.specs.declared.Stop.the-variants.{None}
 use Rattle.beam.specs.declared.Outcome.{Outcome}
-use Rattle.beam.specs.DataWords.{arrived}
+use Rattle.beam.specs.DataWords.{fieldX, fieldY, escaped, arrived}
 
-abbrev pub stateSet : Base → DisplayAddress → Bool → Base
-stateSet b a d = withDatastate (withAddress b a) d
+-- the words of a command are at the display address and the next (01, One turn of a run): behind them the address is past them
+abbrev pub passing : Base → ℕ → Base
+passing b count = withAddress b (addressAfter (b .address) count)
 
+-- a command beat that lights nothing and stops nothing
 abbrev pub unlit : Base → Motion → Outcome
 unlit b m = record { registers = record { base = b; motion = m }; lit = Dark; stop = None }
 
 -- bits 2 to 11 go into the low ten bits, the high three remain; bit 1 inhibits (manual 2.2.1)
 unfoldable pub placed : ℕ → ℕ → Bool → Reached
-placed w old inhibit = record { value = pick inhibit old (old / 1024 * 1024 + bits w 2 11); violated = false }
+placed w old inhibit = record { value = pick (not inhibit) (old / 1024 * 1024 + bits w 2 11) old; violated = false }
 
 -- point (two words, y first, one beat): no scale, no violation
 unfoldable pub point : Base → ℕ → ℕ → Outcome
 point b w v =
-    arrived (stateSet b (addressAfter (b .address) 2) (b .datastate)) Nothing (placed v (b .x) (bit v 1)) (placed w (b .y) (bit w 1))
+    arrived (passing b 2) Nothing (placed v (b .x) (bit v 1)) (placed w (b .y) (bit w 1))
     (bit w 0)
     (bit v 0)
 
 -- increment: the left byte's moves come first
 unfoldable pub increment : Base → ℕ → Outcome
 increment b w =
-    unlit (stateSet b (addressAfter (b .address) 1) (b .datastate))
+    unlit (passing b 1)
     (Bytes (record { word = w; moves = movesAsked (byteAt w false); right = false }))
 
 -- vector: signs and magnitudes (manual 2.2.3)
@@ -71,23 +72,22 @@ shortLine w =
     }
 
 -- if both magnitudes are 0, the command beat ends it with no point (H); its escape takes effect with it
-unfoldable pub begun : Base → DisplayAddress → LineMotion → Outcome
-begun b a l =
-    pick (eqb (l .moves) 0) (unlit (stateSet b a (b .datastate && not (l .escape))) Nothing)
-    (unlit (stateSet b a (b .datastate)) (Line l))
+unfoldable pub begun : Base → LineMotion → Outcome
+begun b l =
+    pick (eqb (l .moves) 0) (unlit (escaped b (l .escape)) Nothing) (unlit b (Line l))
 
 unfoldable pub vector : Base → ℕ → ℕ → Outcome
-vector b w v = begun b (addressAfter (b .address) 2) (vectorLine w v)
+vector b w v = begun (passing b 2) (vectorLine w v)
 
 unfoldable pub shortVector : Base → ℕ → Outcome
-shortVector b w = begun b (addressAfter (b .address) 1) (shortLine w)
+shortVector b w = begun (passing b 1) (shortLine w)
 
 -- graphplot (one beat): one axis moves +s, the other's low 10 bits are set, after a violation too; the word always asks for its point; bit 1 is 0 where x
 -- moves (manual 2.2.7)
 unfoldable pub graphplot : Base → ℕ → Outcome
 graphplot b w =
-    let next = stateSet b (addressAfter (b .address) 1) (b .datastate) in
+    let next = passing b 1 in
     let s = distance (b .scale) in
     pick (bit w 1)
-    (arrived next Nothing (placed w (b .x) false) (moved (dimension (bits (b .conditions) 4 5)) (b .y) s false) true (bit w 0))
-    (arrived next Nothing (moved (dimension (bits (b .conditions) 6 7)) (b .x) s false) (placed w (b .y) false) true (bit w 0))
+    (arrived next Nothing (placed w (b .x) false) (moved (dimension (fieldY b)) (b .y) s false) true (bit w 0))
+    (arrived next Nothing (moved (dimension (fieldX b)) (b .x) s false) (placed w (b .y) false) true (bit w 0))

@@ -1,6 +1,8 @@
 // The data words: what the command beat of each mode does once its words are fetched.
 ghost use mathlib.Core.Path.{_≡_};
-ghost use Rattle.drawing.specs.DataWords.{stateSet, unlit, placed, point, increment, vectorLine, shortLine, begun, vector, shortVector, graphplot};
+ghost use Rattle.registers.specs.With.{withAddress};
+ghost use Rattle.drawing.specs.Setters.{stateSet};
+ghost use Rattle.drawing.specs.DataWords.{unlit, placed, point, increment, vectorLine, shortLine, begun, vector, shortVector, graphplot};
 use addresses::DisplayAddress;
 use beam::Lit;
 use beam::Outcome;
@@ -38,7 +40,7 @@ fn unlit(base: Base, motion: Motion) -> Outcome
 fn placed(word: u16, old: u16, inhibit: bool) -> Reached
     ensures { λ r. ⌜ r ≡ placed word old inhibit ⌝ }
 {
-    let value = words::pick_u16(inhibit, old, old / 1024 * 1024 + words::bits(word, 2, 11));
+    let value = words::pick_u16(!inhibit, old / 1024 * 1024 + words::bits(word, 2, 11), old);
     Reached {
         value,
         violated: false,
@@ -116,7 +118,7 @@ fn short_line(word: u16) -> LineMotion
 
 // A line begins; one with both magnitudes 0 ends at once.
 fn begun(b: Base, address: DisplayAddress, line: LineMotion) -> Outcome
-    ensures { λ r. ⌜ r ≡ begun b address line ⌝ }
+    ensures { λ r. ⌜ r ≡ begun (withAddress b address) line ⌝ }
 {
     if line.moves == 0 {
         unlit(
@@ -150,7 +152,7 @@ pub fn graphplot(b: Base, word: u16) -> Outcome
     let next = state_set(b, b.address.after(1), b.datastate);
     let escape = words::bit(word, 0);
     if words::bit(word, 1) {
-        let y = paper::moved(words::bits(b.conditions, 4, 5), b.y, distance, false);
+        let y = paper::moved(beam::field_y(b), b.y, distance, false);
         beam::arrived(
             next,
             Motion::Nothing,
@@ -160,7 +162,7 @@ pub fn graphplot(b: Base, word: u16) -> Outcome
             escape,
         )
     } else {
-        let x = paper::moved(words::bits(b.conditions, 6, 7), b.x, distance, false);
+        let x = paper::moved(beam::field_x(b), b.x, distance, false);
         beam::arrived(
             next,
             Motion::Nothing,

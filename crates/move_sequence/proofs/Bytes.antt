@@ -1,42 +1,48 @@
 -- The plain moves of increment bytes as the code makes them: which moves are plain, and how each way through a turn of the loop goes on. Assumes nothing.
 use Prim.Native.Nat.{ℕ, suc, _+_, _-_, _%_, _^_, _≤_, _<_}
 use mathlib.Core.Path.{_≡_, refl, ap, sym, subst, _∙_}
-use mathlib.Core.Bool.{Bool, true, false, not, _&&_, and-true, and-false}
+use mathlib.Core.Bool.{Bool, true, false, not, _&&_, _||_}
 use mathlib.Core.List.{List}
 use native.Mathlib.Omega.{arith}
 use lib.ListN.{length}
-use Rattle.words.specs.Words.{bits}
 use Rattle.words.proofs.Laws.{pick-case}
-use Rattle.paper.specs.DataWords.{distance, dimension, step, clear}
+use Rattle.paper.specs.declared.Reached.{Reached}
+use Rattle.paper.specs.DataWords.{distance, dimension}
+use Rattle.paper.specs.Arithmetic.{wrapped}
 use Rattle.paper.proofs.Moves.{distance-small}
+use Rattle.paper.proofs.Axis.{Parted, parted, rejoined, parted-moved, parted-next}
 use Rattle.registers.specs.declared.Base.{Base}
 use Rattle.registers.specs.declared.ByteMotion.{ByteMotion}
 use Rattle.registers.specs.declared.Motion.{Motion}
 use Rattle.registers.specs.declared.Motion.the-variants.{Bytes}
 use Rattle.registers.specs.declared.Registers.{Registers}
+use Rattle.registers.specs.Good.{Good}
 use Rattle.beam.specs.declared.Lit.{Lit}
 use Rattle.beam.specs.declared.Lit.the-variants.{Point}
+use Rattle.beam.specs.DataWords.{fieldX, fieldY, beamAt, litAt}
 use Rattle.moves.specs.declared.Move.{Move}
 use Rattle.moves.specs.declared.Moving.the-variants.{Going}
-use Rattle.beam.specs.DataWords.{litAt}
-use Rattle.moves.specs.DataWords.{byteNext, byteMove, nextMove}
-use Rattle.move_sequence.specs.PlainMoves.{goesOn, plain, beamAt}
-use Rattle.move_sequence.proofs.Plain.{tested, Shown, Put, Far, violates, fills, goes}
+use Rattle.moves.specs.DataWords.{byteNext, byteMove, nextMove, movedX, movedY}
+use Rattle.move_sequence.specs.PlainMoves.{goesOn, plain}
+use Rattle.move_sequence.proofs.Plain.{onto, tested, Shown, Put, Far, violates, fills, goes}
 
--- the tests in the order of the code, where the motion goes on
-reordered : (going escape continues x y : Bool) → going ≡ true → continues ≡ false →
-    (going && not (escape && not continues) && x && y) ≡ (x && y && not escape)
-reordered going true continues x y eg ec = rw (eg, ec, and-false)
-reordered going false continues x y eg ec = rw (eg, and-true)
+-- a move that the motion goes on behind is plain exactly where nothing is violated and nothing escapes
+unescaped : (going escape continues x y : Bool) → going ≡ true → continues ≡ false →
+    (going && not (escape && not continues) && not x && not y) ≡ not (x || y || escape)
+unescaped going escape continues x y eg ec = rw (eg, ec) (by escape x y)
+  where
+    by : (escape x y : Bool) → (not (escape && true) && not x && not y) ≡ not (x || y || escape)
+    by false true y = refl
+    by false false true = refl
+    by false false false = refl
+    by true true y = refl
+    by true false true = refl
+    by true false false = refl
 
 -- a byte's move is no longer than the distance
-short-x : (t : ByteMotion) (s : ℕ) → s ≤ 8 → byteMove t s .travelx ≤ 8
+short : (t : ByteMotion) (s : ℕ) → s ≤ 8 → (byteMove t s .travelx ≤ 255) × (byteMove t s .travely ≤ 255)
 unfolding byteMove
-short-x t s h = pick-case (λ (n : ℕ). n ≤ 8) _ (λ _. h) (λ _. omega arith)
-
-short-y : (t : ByteMotion) (s : ℕ) → s ≤ 8 → byteMove t s .travely ≤ 8
-unfolding byteMove
-short-y t s h = pick-case (λ (n : ℕ). n ≤ 8) _ (λ _. h) (λ _. omega arith)
+short t s h = (pick-case (λ (n : ℕ). n ≤ 255) _ (λ _. omega arith) (λ _. omega arith), pick-case (λ (n : ℕ). n ≤ 255) _ (λ _. omega arith) (λ _. omega arith))
 
 not-continued : (t : ByteMotion) (s : ℕ) → byteMove t s .continues ≡ false
 unfolding byteMove
@@ -54,14 +60,30 @@ unfolding byteMove
 motion-last t s = last t _
 
 -- what the loop's head keeps: what was set before it, and how far it has come
-pub record Along (n₀ : ℕ) (r₀ : Registers) (ps₀ : List ℕ) (place₀ : ℕ) (b : Base) (fieldx fieldy travel : ℕ) (n x y : ℕ) (t : ByteMotion) (ps : List ℕ) (place : ℕ) : Type 0 where
-  pub axisx : fieldx ≡ bits (b .conditions) 6 7
-  pub axisy : fieldy ≡ bits (b .conditions) 4 5
+pub record Along (n₀ : ℕ) (r₀ : Registers) (ps₀ : List ℕ) (place₀ : ℕ) (b : Base) (placesx placesy travel upperx uppery : ℕ) (n lowx lowy : ℕ) (t : ByteMotion) (ps : List ℕ) (place : ℕ) : Type 0 where
+  pub axisx : Parted (fieldX b) placesx upperx lowx
+  pub axisy : Parted (fieldY b) placesy uppery lowy
   pub reach : travel ≡ distance (b .scale)
-  pub far : Far n₀ r₀ ps₀ place₀ b n x y (Bytes t) ps place
+  pub far : Far n₀ r₀ ps₀ place₀ b n (upperx + lowx) (uppery + lowy) (Bytes t) ps place
 
-module _ {n₀ : ℕ} {r₀ : Registers} {ps₀ : List ℕ} {place₀ : ℕ} {b : Base} {fieldx fieldy travel n x y : ℕ} {t : ByteMotion} {ps : List ℕ} {place : ℕ}
-    (a : Along n₀ r₀ ps₀ place₀ b fieldx fieldy travel n x y t ps place) (some : 0 < n) {v : Move} (moves : v ≡ byteMove t travel) where
+pub start : {n : ℕ} {b : Base} {t : ByteMotion} {ps : List ℕ} {from placesx placesy travel : ℕ} →
+    Good (record { base = b; motion = Bytes t }) → from ≤ length ps → placesx ≡ 2 ^ dimension (fieldX b) → placesy ≡ 2 ^ dimension (fieldY b) →
+    travel ≡ distance (b .scale) →
+    Along n (record { base = b; motion = Bytes t }) ps from b placesx placesy travel (b .x - b .x % placesx) (b .y - b .y % placesy) n (b .x % placesx) (b .y % placesy) t ps from
+start {b = b} {placesx = placesx} {placesy = placesy} g room px py e =
+    record {
+      axisx = parted (fieldX b) placesx (b .x) px;
+      axisy = parted (fieldY b) placesy (b .y) py;
+      reach = e;
+      far = rw (rejoined placesx (b .x), rejoined placesy (b .y)) (record { size = refl; room = room; good = g; whole = refl });
+    }
+
+module _ {n₀ : ℕ} {r₀ : Registers} {ps₀ : List ℕ} {place₀ : ℕ} {b : Base} {placesx placesy travel upperx uppery n lowx lowy : ℕ} {t : ByteMotion} {ps : List ℕ} {place : ℕ}
+    (a : Along n₀ r₀ ps₀ place₀ b placesx placesy travel upperx uppery n lowx lowy t ps place) (some : 0 < n) {v : Move} (moves : v ≡ byteMove t travel) where
+  -- a call that returns here shows the sequence
+  abbrev Shows : Type 0
+  Shows = Shown n₀ r₀ ps₀ place₀ b n (upperx + lowx) (uppery + lowy) (Bytes t) ps place
+
   as-defined : v ≡ byteMove t (distance (b .scale))
   as-defined = moves ∙ ap (byteMove t) (a .reach)
 
@@ -72,48 +94,50 @@ module _ {n₀ : ℕ} {r₀ : Registers} {ps₀ : List ℕ} {place₀ : ℕ} {b 
   fewer : n ≡ suc (n - 1)
   fewer = omega arith
 
-  near-x : v .travelx ≤ 8
-  near-x = rw as-defined (short-x t (distance (b .scale)) (distance-small _))
-
-  near-y : v .travely ≤ 8
-  near-y = rw as-defined (short-y t (distance (b .scale)) (distance-small _))
-
-  tests : plain (beamAt b x y) v ≡ (goesOn (v .motion) && not (v .escape && not (v .continues)) && clear (dimension (bits (b .conditions) 6 7)) x (step (v .travelx) (v .minusx)) && clear (dimension (bits (b .conditions) 4 5)) y (step (v .travely) (v .minusy)))
-  tests = tested (beamAt b x y) v (a .far .good .base .x) (a .far .good .base .y) near-x near-y
+  near : (v .travelx ≤ 255) × (v .travely ≤ 255)
+  near = rw as-defined (short t (distance (b .scale)) (distance-small _))
 
   -- a move that no byte follows is not made
-  pub ends : ((next : ByteMotion) → v .motion ≡ Bytes next → ⊥) → Shown n₀ r₀ ps₀ place₀ b n x y (Bytes t) ps place
-  ends h = violates (a .far) fewer next-move (tests ∙ rw (ap (λ (w : Move). goesOn (w .motion)) moves ∙ motion-last t travel (rw moves at h)))
+  pub ends : ((next : ByteMotion) → v .motion ≡ Bytes next → ⊥) → Shows
+  unfolding plain
+  ends h = violates (a .far) fewer next-move (rw (ap (λ (w : Move). goesOn (w .motion)) moves ∙ motion-last t travel (rw moves at h)))
 
-  -- bytes follow, and the code has tested
-  module _ {next : ByteMotion} (follows : v .motion ≡ Bytes next) {stepx stepy : ℕ} {clearx cleary : Bool}
-      (sx : stepx ≡ step (v .travelx) (v .minusx)) (sy : stepy ≡ step (v .travely) (v .minusy))
-      (cx : clearx ≡ clear (dimension fieldx) x stepx) (cy : cleary ≡ clear (dimension fieldy) y stepy) where
-    test : plain (beamAt b x y) v ≡ (clearx && cleary && not (v .escape))
-    test =
-        tests
-        ∙ reordered (goesOn (v .motion)) (v .escape) (v .continues) _ _ (ap goesOn follows) (ap (λ (w : Move). w .continues) moves ∙ not-continued t travel)
-        ∙ rw (cx, cy, a .axisx, a .axisy, sx, sy)
+  -- bytes follow, and the code has tried both axes
+  module _ {next : ByteMotion} (follows : v .motion ≡ Bytes next) {nextx nexty : Reached}
+      (nx : nextx ≡ wrapped placesx lowx (v .travelx) (v .minusx)) (ny : nexty ≡ wrapped placesy lowy (v .travely) (v .minusy)) where
+    there-x : movedX (beamAt b (upperx + lowx) (uppery + lowy)) v ≡ onto upperx nextx
+    there-x = parted-moved (a .axisx) (v .travelx) (near .0) (v .minusx) nx
 
-    -- a move that is not clear or escapes is not made
-    pub stops : (clearx && cleary && not (v .escape)) ≡ false → Shown n₀ r₀ ps₀ place₀ b n x y (Bytes t) ps place
-    stops e = violates (a .far) fewer next-move (test ∙ e)
+    there-y : movedY (beamAt b (upperx + lowx) (uppery + lowy)) v ≡ onto uppery nexty
+    there-y = parted-moved (a .axisy) (v .travely) (near .1) (v .minusy) ny
 
-    -- any other, with where it arrives and what it lights
-    module _ (e : (clearx && cleary && not (v .escape)) ≡ true) {x′ y′ : ℕ} (ex : x′ ≡ (x + stepx) % 2 ^ 16) (ey : y′ ≡ (y + stepy) % 2 ^ 16)
-        {lit : Lit} (el : lit ≡ litAt b x′ y′ (v .asked) false) where
+    tests : plain (beamAt b (upperx + lowx) (uppery + lowy)) v ≡ not (nextx .violated || nexty .violated || v .escape)
+    tests =
+        tested (beamAt b (upperx + lowx) (uppery + lowy)) v there-x there-y
+        ∙ unescaped (goesOn (v .motion)) (v .escape) (v .continues) (nextx .violated) (nexty .violated) (ap goesOn follows) (ap (λ (w : Move). w .continues) moves ∙ not-continued t travel)
+
+    -- a move that violates or escapes is not made
+    pub stops : (nextx .violated || nexty .violated || v .escape) ≡ true → Shows
+    stops e = violates (a .far) fewer next-move (tests ∙ rw e)
+
+    -- any other, with what it lights
+    module _ (e : (nextx .violated || nexty .violated || v .escape) ≡ false) {lit : Lit} (el : lit ≡ litAt b (upperx + nextx .value) (uppery + nexty .value) (v .asked) false) where
+      plainly : plain (beamAt b (upperx + lowx) (uppery + lowy)) v ≡ true
+      plainly = tests ∙ rw e
+
       -- without room for its point it is not made
-      pub crammed : {value : ℕ} → lit ≡ Point value → length ps ≤ place → Shown n₀ r₀ ps₀ place₀ b n x y (Bytes t) ps place
-      crammed u f = fills (a .far) fewer next-move near-x near-y (test ∙ e) (ex ∙ rw sx) (ey ∙ rw sy) el (rw u (omega arith))
+      pub crammed : {value : ℕ} → lit ≡ Point value → length ps ≤ place → Shows
+      crammed u f = fills (a .far) fewer next-move plainly there-x there-y el (rw u (omega arith))
 
       -- with room for it, it is made
-      pub onwards : {ps′ : List ℕ} {place′ : ℕ} → Put lit ps place ps′ place′ → Along n₀ r₀ ps₀ place₀ b fieldx fieldy travel (n - 1) x′ y′ next ps′ place′
+      pub onwards : {ps′ : List ℕ} {place′ : ℕ} → Put lit ps place ps′ place′ →
+          Along n₀ r₀ ps₀ place₀ b placesx placesy travel upperx uppery (n - 1) (nextx .value) (nexty .value) next ps′ place′
       onwards {ps′} {place′} w =
           record {
-            axisx = a .axisx;
-            axisy = a .axisy;
+            axisx = parted-next (a .axisx) (v .travelx) (v .minusx) nx;
+            axisy = parted-next (a .axisy) (v .travely) (v .minusy) ny;
             reach = a .reach;
             far =
-                subst (λ (m : Motion). Far n₀ r₀ ps₀ place₀ b (n - 1) x′ y′ m ps′ place′) follows
-                (goes (a .far) fewer next-move near-x near-y (test ∙ e) (ex ∙ rw sx) (ey ∙ rw sy) el w);
+                subst (λ (m : Motion). Far n₀ r₀ ps₀ place₀ b (n - 1) (upperx + nextx .value) (uppery + nexty .value) m ps′ place′) follows
+                (goes (a .far) fewer next-move plainly there-x there-y el w);
           }

@@ -1,20 +1,24 @@
--- The plain moves of a line as the code makes them: its steps and tests are those of the next move, the loop's head keeps `Along`, and each way through a turn
--- of the loop, and out of it, is a law over `Along`. Assumes nothing.
+-- The plain moves of a line as the code makes them: what it carries of each axis tells the next move and where it arrives, the loop's head keeps `Along`, and
+-- each way through a turn of the loop, and out of it, is a law over `Along`. Assumes nothing.
 use Prim.Native.Nat.{ℕ, zero, suc, _+_, _-_, _*_, _%_, _^_, _≤_, _<_}
 use mathlib.Core.Path.{_≡_, refl, sym, _∙_}
-use mathlib.Core.Bool.{Bool, true, false, not, _&&_}
+use mathlib.Core.Bool.{Bool, true, false, not, _&&_, _||_}
 use mathlib.Core.List.{List}
 use mathlib.Core.Logic.{_⊎_, inl, inr, ⊎-elim}
 use native.Mathlib.Nat.{le-trans}
+use native.Mathlib.Numerals.{add-one}
 use native.Mathlib.Omega.{arith}
 use lib.Dec.{eqb, ltb, leb}
 use lib.ListN.{length}
 use borrow.Author.Tests.{ltb-true, ltb-false, lt-ltb, le-ltb, lt-leb}
-use Rattle.words.specs.Words.{bits, pick}
+use Rattle.words.specs.Words.{pick}
 use Rattle.words.proofs.Laws.{pick-case}
-use Rattle.paper.specs.DataWords.{distance, dimension, step, clear, advance}
+use Rattle.paper.specs.declared.Reached.{Reached}
+use Rattle.paper.specs.DataWords.{distance, dimension, travel}
+use Rattle.paper.specs.Arithmetic.{wrapped, owed}
 use Rattle.paper.proofs.Moves.{distance-small}
-use Rattle.paper.proofs.Lines.{advance-step, advance-small}
+use Rattle.paper.proofs.Lines.{owed-below, advance-owed, owed-next, travel-small}
+use Rattle.paper.proofs.Axis.{Parted, parted, rejoined, parted-moved, parted-next}
 use Rattle.registers.specs.declared.Base.{Base}
 use Rattle.registers.specs.declared.LineMotion.{LineMotion}
 use Rattle.registers.specs.declared.Motion.{Motion}
@@ -24,13 +28,13 @@ use Rattle.registers.specs.Good.{Good}
 use Rattle.registers.proofs.InRange.{line-bounds}
 use Rattle.beam.specs.declared.Lit.{Lit}
 use Rattle.beam.specs.declared.Lit.the-variants.{Point}
+use Rattle.beam.specs.DataWords.{fieldX, fieldY, beamAt, litAt}
 use Rattle.moves.specs.declared.Move.{Move}
 use Rattle.moves.specs.declared.Moving.the-variants.{Going}
-use Rattle.beam.specs.DataWords.{litAt}
-use Rattle.moves.specs.DataWords.{withDone, lineNext, lineMove, nextMove}
+use Rattle.moves.specs.DataWords.{withDone, lineNext, lineMove, nextMove, movedX, movedY}
 use Rattle.moves.proofs.Kept.{waits}
-use Rattle.move_sequence.specs.PlainMoves.{goesOn, plain, sequence, beamAt}
-use Rattle.move_sequence.proofs.Plain.{at, tested, Shown, Put, Far, spent, violates, fills, goes}
+use Rattle.move_sequence.specs.PlainMoves.{goesOn, plain, sequence}
+use Rattle.move_sequence.proofs.Plain.{onto, at, tested, Shown, Put, Far, spent, violates, fills, goes}
 
 -- the registers with the beam at x and y and k moves of the line done
 abbrev onLine : Base → LineMotion → ℕ → ℕ → ℕ → Registers
@@ -44,8 +48,8 @@ next : (b : Base) (l : LineMotion) (k : ℕ) → nextMove (Line (withDone l k)) 
 unfolding nextMove
 next b l k = refl
 
--- a move that is not the line's last
-module _ (b : Base) (l : LineMotion) (x y k : ℕ) (g : Good (onLine b l x y k)) (less : k + 1 < l .moves) where
+-- a move that is not the line's last goes on with it and escapes nothing
+module _ (b : Base) (l : LineMotion) (k : ℕ) (less : k + 1 < l .moves) where
   line-on : lineFrom b l k .motion ≡ Line (withDone l (k + 1))
   unfolding lineMove lineNext pick
   line-on = rw (lt-ltb (k + 1) (l .moves) less)
@@ -54,27 +58,10 @@ module _ (b : Base) (l : LineMotion) (x y k : ℕ) (g : Good (onLine b l x y k))
   unfolding lineMove
   quiet = waits (l .escape) (leb (l .moves) (k + 1)) (eqb (b .mode) 3) (rw (lt-leb (l .moves) (k + 1) less))
 
-  short : (lineFrom b l k .travelx ≤ 8) × (lineFrom b l k .travely ≤ 8)
-  unfolding lineMove
-  short = let n = line-bounds (g .motion .3) in (by (l .magx) (n .0), by (l .magy) (n .1))
-    where
-      by : (m : ℕ) → m ≤ l .moves → advance k m (l .moves) * distance (b .scale) ≤ 8
-      by m h = le-trans (advance-small k m (l .moves) _ (omega arith) h) (distance-small _)
-
-  -- the code's steps are the move's
-  steps : (step (lineFrom b l k .travelx) (lineFrom b l k .minusx) ≡ advance k (l .magx) (l .moves) * step (distance (b .scale)) (l .minusx)) × (step (lineFrom b l k .travely) (lineFrom b l k .minusy) ≡ advance k (l .magy) (l .moves) * step (distance (b .scale)) (l .minusy))
-  unfolding lineMove
-  steps = let n = line-bounds (g .motion .3) in (by (l .magx) (l .minusx) (n .0), by (l .magy) (l .minusy) (n .1))
-    where
-      by : (m : ℕ) (minus : Bool) → m ≤ l .moves →
-          step (advance k m (l .moves) * distance (b .scale)) minus ≡ advance k m (l .moves) * step (distance (b .scale)) minus
-      by m minus h = sym (advance-step k m (l .moves) (distance (b .scale)) minus (omega arith) h)
-
-  -- and so are its tests
-  line-plain : plain (beamAt b x y) (lineFrom b l k) ≡ (clear (dimension (bits (b .conditions) 6 7)) x (advance k (l .magx) (l .moves) * step (distance (b .scale)) (l .minusx)) && clear (dimension (bits (b .conditions) 4 5)) y (advance k (l .magy) (l .moves) * step (distance (b .scale)) (l .minusy)))
-  line-plain =
-      tested (beamAt b x y) (lineFrom b l k) (g .base .x) (g .base .y) (short .0) (short .1)
-      ∙ rw (line-on, quiet, steps .0, steps .1, lt-ltb 0 (k + 1) (omega arith))
+-- so it is plain exactly where nothing is violated
+unviolated : (going still x y : Bool) → going ≡ true → still ≡ false → (going && not still && not x && not y) ≡ not (x || y)
+unviolated going still true y eg es = rw (eg, es)
+unviolated going still false y eg es = rw (eg, es)
 
 -- a line's last move ends it or starts it over, so it is not plain
 last-ends : (b : Base) (l : LineMotion) (k : ℕ) → l .moves ≤ k + 1 → goesOn (lineFrom b l k .motion) ≡ false
@@ -98,42 +85,67 @@ bound done moves limit h =
     (λ e. record { limited = omega arith; short = omega (arith, ltb-true limit (moves - 1 - done) e); met = inl refl })
     (λ e. record { limited = omega (arith, ltb-false limit (moves - 1 - done) e); short = omega arith; met = inr (omega arith) })
 
--- what the loop's head keeps: what was set before it, where it ends, and how far it has come
-pub record Along (b : Base) (l : LineMotion) (ps₀ : List ℕ) (from limit fieldx fieldy forwardx forwardy last : ℕ) (ps : List ℕ) (x y done place : ℕ) : Type 0 where
-  pub axisx : fieldx ≡ bits (b .conditions) 6 7
-  pub axisy : fieldy ≡ bits (b .conditions) 4 5
-  pub onwardx : forwardx ≡ step (distance (b .scale)) (l .minusx)
-  pub onwardy : forwardy ≡ step (distance (b .scale)) (l .minusy)
+-- what the loop carries of an axis tells how far it travels in the next move, and what to carry behind it
+module _ (k m n : ℕ) (some : 0 < n) {owes twice : ℕ} (e : owes ≡ owed k m n) (d : twice ≡ 2 * n) where
+  travels : (s : ℕ) → pick (leb twice (owes + 2 * m)) s 0 ≡ travel k m n s
+  unfolding travel
+  travels s = rw (d, e, advance-owed k m n some)
+
+  carries : m ≤ n → pick (leb twice (owes + 2 * m)) (owes + 2 * m - twice) (owes + 2 * m) ≡ owed (k + 1) m n
+  carries h = rw (d, e, add-one k) (sym (owed-next k m n some h))
+
+-- no travel is longer than 8
+near : (k m n scale : ℕ) → travel k m n (distance scale) ≤ 255
+near k m n scale = le-trans (travel-small k m n (distance scale)) (le-trans (distance-small scale) (omega arith))
+
+-- what the loop's head keeps: what was set before it, where it ends, what it carries, and how far it has come
+pub record Along (b : Base) (l : LineMotion) (ps₀ : List ℕ) (from limit placesx placesy reach last upperx uppery twice : ℕ) (ps : List ℕ) (lowx lowy owedx owedy done place : ℕ) : Type 0 where
+  pub axisx : Parted (fieldX b) placesx upperx lowx
+  pub axisy : Parted (fieldY b) placesy uppery lowy
+  pub distanced : reach ≡ distance (b .scale)
+  pub doubled : twice ≡ 2 * l .moves
+  pub owesx : owedx ≡ owed done (l .magx) (l .moves)
+  pub owesy : owedy ≡ owed done (l .magy) (l .moves)
   pub bounds : Bound (l .done) (l .moves) limit last
   pub begun : l .done ≤ done
   pub reached : done ≤ last
-  pub far : Far limit (record { base = b; motion = Line l }) ps₀ from b (limit - (done - l .done)) x y (Line (withDone l done)) ps place
+  pub far : Far limit (record { base = b; motion = Line l }) ps₀ from b (limit - (done - l .done)) (upperx + lowx) (uppery + lowy) (Line (withDone l done)) ps place
 
-pub start : {b : Base} {l : LineMotion} {ps : List ℕ} {from limit fieldx fieldy forwardx forwardy last : ℕ} →
-    Good (record { base = b; motion = Line l }) → from ≤ length ps → fieldx ≡ bits (b .conditions) 6 7 →
-    fieldy ≡ bits (b .conditions) 4 5 → forwardx ≡ step (distance (b .scale)) (l .minusx) →
-    forwardy ≡ step (distance (b .scale)) (l .minusy) →
-    last ≡ pick (ltb limit (l .moves - 1 - l .done)) (l .done + limit) (l .moves - 1) →
-    Along b l ps from limit fieldx fieldy forwardx forwardy last ps (b .x) (b .y) (l .done) from
-start {l = l} {limit = limit} {last = last} g room ex ey fx fy e =
-    let n : Bound (l .done) (l .moves) limit last = rw e (bound (l .done) (l .moves) limit (g .motion .3 .done)) in
+pub start : {b : Base} {l : LineMotion} {ps : List ℕ} {from limit placesx placesy reach last owedx owedy : ℕ} →
+    Good (record { base = b; motion = Line l }) → from ≤ length ps → placesx ≡ 2 ^ dimension (fieldX b) → placesy ≡ 2 ^ dimension (fieldY b) →
+    reach ≡ distance (b .scale) → last ≡ pick (ltb limit (l .moves - 1 - l .done)) (l .done + limit) (l .moves - 1) →
+    owedx ≡ owed (l .done) (l .magx) (l .moves) → owedy ≡ owed (l .done) (l .magy) (l .moves) →
+    Along b l ps from limit placesx placesy reach last (b .x - b .x % placesx) (b .y - b .y % placesy) (2 * l .moves) ps (b .x % placesx) (b .y % placesy) owedx owedy (l .done) from
+start {b = b} {l = l} {limit = limit} {placesx = placesx} {placesy = placesy} {last = last} g room px py e el ox oy =
+    let n : Bound (l .done) (l .moves) limit last = rw el (bound (l .done) (l .moves) limit (g .motion .3 .done)) in
     let all : limit - (l .done - l .done) ≡ limit = omega arith in
     record {
-      axisx = ex;
-      axisy = ey;
-      onwardx = fx;
-      onwardy = fy;
+      axisx = parted (fieldX b) placesx (b .x) px;
+      axisy = parted (fieldY b) placesy (b .y) py;
+      distanced = e;
+      doubled = refl;
+      owesx = ox;
+      owesy = oy;
       bounds = n;
       begun = omega arith;
       reached = ⊎-elim (λ h. omega arith) (λ h. omega (arith, g .motion .3 .done)) (n .met);
-      far = record { size = refl; room = room; good = g; whole = rw all };
+      far = rw (rejoined placesx (b .x), rejoined placesy (b .y)) (record { size = refl; room = room; good = g; whole = rw all });
     }
 
-module _ {b : Base} {l : LineMotion} {ps₀ : List ℕ} {from limit fieldx fieldy forwardx forwardy last : ℕ} {ps : List ℕ} {x y done place : ℕ}
-    (a : Along b l ps₀ from limit fieldx fieldy forwardx forwardy last ps x y done place) where
+module _ {b : Base} {l : LineMotion} {ps₀ : List ℕ} {from limit placesx placesy reach last upperx uppery twice : ℕ} {ps : List ℕ} {lowx lowy owedx owedy done place : ℕ}
+    (a : Along b l ps₀ from limit placesx placesy reach last upperx uppery twice ps lowx lowy owedx owedy done place) where
   -- a call that returns here shows the sequence
   abbrev Shows : Type 0
-  Shows = Shown limit (record { base = b; motion = Line l }) ps₀ from b (limit - (done - l .done)) x y (Line (withDone l done)) ps place
+  Shows = Shown limit (record { base = b; motion = Line l }) ps₀ from b (limit - (done - l .done)) (upperx + lowx) (uppery + lowy) (Line (withDone l done)) ps place
+
+  -- the numbers are small
+  pub few : done ≤ 1023
+  few = omega (arith, a .reached, a .bounds .short, line-bounds (a .far .good .motion .3) .2)
+
+  pub reaches : (owedx + 2 * l .magx ≤ 4092) × (owedy + 2 * l .magy ≤ 4092)
+  reaches =
+      let g = line-bounds (a .far .good .motion .3) in
+      (rw (a .owesx) (omega (arith, owed-below done (l .magx) (l .moves), g .0, g .2)), rw (a .owesy) (omega (arith, owed-below done (l .magy) (l .moves), g .1, g .2)))
 
   -- behind the loop no move is left, or the line's last one is next
   pub over : last ≤ done → Shows
@@ -143,57 +155,68 @@ module _ {b : Base} {l : LineMotion} {ps₀ : List ℕ} {from limit fieldx field
       by zero e = spent (a .far) e
       by (suc n) e =
           violates (a .far) e (next b l done)
-          (last-stays b l x y done (⊎-elim (λ m. absurd (omega arith)) (λ m. omega arith) (a .bounds .met)))
+          (last-stays b l (upperx + lowx) (uppery + lowy) done (⊎-elim (λ m. absurd (omega arith)) (λ m. omega arith) (a .bounds .met)))
 
-  -- in a turn of the loop, with the steps and the tests of the code
-  module _ (turn : done < last) {stepx stepy : ℕ} {clearx cleary : Bool}
-      (sx : stepx ≡ advance done (l .magx) (l .moves) * forwardx) (sy : stepy ≡ advance done (l .magy) (l .moves) * forwardy)
-      (cx : clearx ≡ clear (dimension fieldx) x stepx) (cy : cleary ≡ clear (dimension fieldy) y stepy) where
+  -- in a turn of the loop, with how far the code takes each axis, and where
+  module _ (turn : done < last) {travelx travely : ℕ} {nextx nexty : Reached}
+      (tx : travelx ≡ pick (leb twice (owedx + 2 * l .magx)) reach 0) (ty : travely ≡ pick (leb twice (owedy + 2 * l .magy)) reach 0)
+      (nx : nextx ≡ wrapped placesx lowx travelx (l .minusx)) (ny : nexty ≡ wrapped placesy lowy travely (l .minusy)) where
     less : done + 1 < l .moves
     less = omega (arith, a .bounds .short)
 
     some : limit - (done - l .done) ≡ suc (limit - (done + 1 - l .done))
     some = omega (arith, a .bounds .limited, a .begun)
 
-    tests : plain (beamAt b x y) (lineFrom b l done) ≡ (clearx && cleary)
-    tests = line-plain b l x y done (a .far .good) less ∙ rw (cx, cy, sx, sy, a .axisx, a .axisy, a .onwardx, a .onwardy)
+    there-x : movedX (beamAt b (upperx + lowx) (uppery + lowy)) (lineFrom b l done) ≡ onto upperx nextx
+    unfolding lineMove
+    there-x =
+        parted-moved (a .axisx) (travel done (l .magx) (l .moves) (distance (b .scale))) (near done (l .magx) (l .moves) (b .scale)) (l .minusx)
+        (nx ∙ rw (tx, a .distanced, travels done (l .magx) (l .moves) (omega arith) (a .owesx) (a .doubled) (distance (b .scale))))
 
-    -- a move that is not clear is not made
-    pub edge : (clearx && cleary) ≡ false → Shows
-    edge e = violates (a .far) some (next b l done) (tests ∙ e)
+    there-y : movedY (beamAt b (upperx + lowx) (uppery + lowy)) (lineFrom b l done) ≡ onto uppery nexty
+    unfolding lineMove
+    there-y =
+        parted-moved (a .axisy) (travel done (l .magy) (l .moves) (distance (b .scale))) (near done (l .magy) (l .moves) (b .scale)) (l .minusy)
+        (ny ∙ rw (ty, a .distanced, travels done (l .magy) (l .moves) (omega arith) (a .owesy) (a .doubled) (distance (b .scale))))
 
-    -- a move that is clear, with where it arrives and what it lights
-    module _ (e : (clearx && cleary) ≡ true) {nextx nexty : ℕ} (nx : nextx ≡ (x + stepx) % 2 ^ 16) (ny : nexty ≡ (y + stepy) % 2 ^ 16)
-        {lit : Lit} (el : lit ≡ litAt b nextx nexty (l .lit) false) where
-      there-x : nextx ≡ (x + step (lineFrom b l done .travelx) (lineFrom b l done .minusx)) % 2 ^ 16
-      there-x = rw (steps b l x y done (a .far .good) less .0, ← a .onwardx, ← sx) nx
+    tests : plain (beamAt b (upperx + lowx) (uppery + lowy)) (lineFrom b l done) ≡ not (nextx .violated || nexty .violated)
+    tests =
+        tested (beamAt b (upperx + lowx) (uppery + lowy)) (lineFrom b l done) there-x there-y
+        ∙ unviolated (goesOn (lineFrom b l done .motion)) (lineFrom b l done .escape && not (lineFrom b l done .continues)) (nextx .violated) (nexty .violated) (rw (line-on b l done less) (lt-ltb 0 (done + 1) (omega arith))) (quiet b l done less)
 
-      there-y : nexty ≡ (y + step (lineFrom b l done .travely) (lineFrom b l done .minusy)) % 2 ^ 16
-      there-y = rw (steps b l x y done (a .far .good) less .1, ← a .onwardy, ← sy) ny
+    -- a move that violates is not made
+    pub edge : (nextx .violated || nexty .violated) ≡ true → Shows
+    edge e = violates (a .far) some (next b l done) (tests ∙ rw e)
 
-      asked : lit ≡ litAt b nextx nexty (lineFrom b l done .asked) false
+    -- any other, with what it lights
+    module _ (e : (nextx .violated || nexty .violated) ≡ false) {lit : Lit} (el : lit ≡ litAt b (upperx + nextx .value) (uppery + nexty .value) (l .lit) false) where
+      plainly : plain (beamAt b (upperx + lowx) (uppery + lowy)) (lineFrom b l done) ≡ true
+      plainly = tests ∙ rw e
+
+      asked : lit ≡ litAt b (upperx + nextx .value) (uppery + nexty .value) (lineFrom b l done .asked) false
       unfolding lineMove
       asked = el
 
       -- without room for its point it is not made
       pub crammed : {value : ℕ} → lit ≡ Point value → length ps ≤ place → Shows
-      crammed u f =
-          let n = short b l x y done (a .far .good) less in
-          fills (a .far) some (next b l done) (n .0) (n .1) (tests ∙ e) there-x there-y asked (rw u (omega arith))
+      crammed u f = fills (a .far) some (next b l done) plainly there-x there-y asked (rw u (omega arith))
 
       -- with room for it, it is made
-      pub onwards : {ps′ : List ℕ} {place′ : ℕ} → Put lit ps place ps′ place′ →
-          Along b l ps₀ from limit fieldx fieldy forwardx forwardy last ps′ nextx nexty (done + 1) place′
-      onwards w =
-          let n = short b l x y done (a .far .good) less in
+      pub onwards : {ps′ : List ℕ} {place′ owedx′ owedy′ : ℕ} → Put lit ps place ps′ place′ →
+          owedx′ ≡ pick (leb twice (owedx + 2 * l .magx)) (owedx + 2 * l .magx - twice) (owedx + 2 * l .magx) →
+          owedy′ ≡ pick (leb twice (owedy + 2 * l .magy)) (owedy + 2 * l .magy - twice) (owedy + 2 * l .magy) →
+          Along b l ps₀ from limit placesx placesy reach last upperx uppery twice ps′ (nextx .value) (nexty .value) owedx′ owedy′ (done + 1) place′
+      onwards w ox oy =
+          let g = line-bounds (a .far .good .motion .3) in
           record {
-            axisx = a .axisx;
-            axisy = a .axisy;
-            onwardx = a .onwardx;
-            onwardy = a .onwardy;
+            axisx = parted-next (a .axisx) travelx (l .minusx) nx;
+            axisy = parted-next (a .axisy) travely (l .minusy) ny;
+            distanced = a .distanced;
+            doubled = a .doubled;
+            owesx = ox ∙ carries done (l .magx) (l .moves) (omega arith) (a .owesx) (a .doubled) (g .0);
+            owesy = oy ∙ carries done (l .magy) (l .moves) (omega arith) (a .owesy) (a .doubled) (g .1);
             bounds = a .bounds;
             begun = omega (arith, a .begun);
             reached = omega arith;
-            far =
-                rw (line-on b l x y done (a .far .good) less) at (goes (a .far) some (next b l done) (n .0) (n .1) (tests ∙ e) there-x there-y asked w);
+            far = rw (line-on b l done less) at (goes (a .far) some (next b l done) plainly there-x there-y asked w);
           }

@@ -1,6 +1,6 @@
 -- What a plain move leaves, and how a sequence goes on with it or stays where the next move is not plain or its point has no room. Then what both loops of
 -- the code keep: the sequence from here is the sequence from the start. Assumes nothing.
-use Prim.Native.Nat.{ℕ, suc, _+_, _%_, _^_, _≤_, _<_}
+use Prim.Native.Nat.{ℕ, suc, _+_, _≤_, _<_}
 use mathlib.Core.Path.{_≡_, refl, ap, sym, _∙_}
 use mathlib.Core.Bool.{Bool, true, false, not, _&&_, _||_, and-true, and-false, or-false}
 use mathlib.Core.List.{List}
@@ -9,10 +9,8 @@ use lib.Dec.{leb}
 use lib.ListN.{length, set}
 use lib.Seq.{sets, length-sets}
 use borrow.Author.Tests.{not-true, le-leb, lt-leb}
-use Rattle.words.specs.Words.{bits, pick}
+use Rattle.words.specs.Words.{pick}
 use Rattle.paper.specs.declared.Reached.{Reached}
-use Rattle.paper.specs.DataWords.{dimension, moved, step, clear}
-use Rattle.paper.proofs.Moves.{clear-moved, clear-value}
 use Rattle.registers.specs.declared.Base.{Base}
 use Rattle.registers.specs.declared.Motion.{Motion}
 use Rattle.registers.specs.declared.Registers.{Registers}
@@ -23,23 +21,20 @@ use Rattle.moves.specs.declared.Move.{Move}
 use Rattle.beam.specs.declared.Outcome.{Outcome}
 use Rattle.moves.specs.declared.Moving.the-variants.{Going}
 use Rattle.beam.specs.declared.Stop.the-variants.{None}
-use Rattle.beam.specs.DataWords.{litAt, points, arrived}
-use Rattle.moves.specs.DataWords.{nextMove, displaced}
+use Rattle.beam.specs.DataWords.{beamAt, litAt, points, arrived}
+use Rattle.moves.specs.DataWords.{nextMove, movedX, movedY, displaced}
 use Rattle.moves.proofs.Kept.{displaced-good}
 use Rattle.move_sequence.specs.declared.Sequence.{Sequence}
-use Rattle.move_sequence.specs.PlainMoves.{goesOn, plain, leaves, stays, onMove, sequence, beamAt}
+use Rattle.move_sequence.specs.PlainMoves.{goesOn, plain, leaves, stays, onMove, sequence}
 
 -- both hold where the two together do
 pub both : (a c : Bool) → (a && c) ≡ true → (a ≡ true) × (c ≡ true)
 both true c h = (refl, h)
 both false c h = (h, cc)
 
--- where a move of each axis arrives
-abbrev pub onX : Base → Move → Reached
-onX b v = moved (dimension (bits (b .conditions) 6 7)) (b .x) (v .travelx) (v .minusx)
-
-abbrev pub onY : Base → Move → Reached
-onY b v = moved (dimension (bits (b .conditions) 4 5)) (b .y) (v .travely) (v .minusy)
+-- a coordinate that a move takes to the low bits of `end`, the upper ones kept
+abbrev pub onto : ℕ → Reached → Reached
+onto upper end = record { value = upper + end .value; violated = end .violated }
 
 -- the registers with the beam at x and y and the motion m
 abbrev pub at : Base → ℕ → ℕ → Motion → Registers
@@ -51,14 +46,14 @@ there b v x y = record { registers = at b x y (v .motion); lit = litAt b x y (v 
 
 -- the point that it lights
 abbrev pub lights : Base → Move → Lit
-lights b v = litAt b (onX b v .value) (onY b v .value) (v .asked) false
+lights b v = litAt b (movedX b v .value) (movedY b v .value) (v .asked) false
 
 -- what a plain move is, as facts
 pub record Plainly (b : Base) (v : Move) : Type 0 where
   pub going : goesOn (v .motion) ≡ true
   pub stayed : (v .escape && not (v .continues)) ≡ false
-  pub x : onX b v .violated ≡ false
-  pub y : onY b v .violated ≡ false
+  pub x : movedX b v .violated ≡ false
+  pub y : movedY b v .violated ≡ false
 
 pub facts : (b : Base) (v : Move) → plain b v ≡ true → Plainly b v
 unfolding plain
@@ -77,12 +72,12 @@ quietly b v x y hx hy escape ex ey e = rw (ex, ey, e) (simp (and-true, or-false)
 never-ends : (continues hx hy : Bool) → hx ≡ false → hy ≡ false → (continues && (hx || hy)) ≡ false
 never-ends continues hx hy ex ey = rw (ex, ey, and-false)
 
-pub plainly : (b : Base) (v : Move) → plain b v ≡ true → displaced b v ≡ there b v (onX b v .value) (onY b v .value)
+pub plainly : (b : Base) (v : Move) → plain b v ≡ true → displaced b v ≡ there b v (movedX b v .value) (movedY b v .value)
 unfolding displaced pick
 plainly b v p =
     let f = facts b v p in
-    rw (never-ends (v .continues) (onX b v .violated) (onY b v .violated) (f .x) (f .y))
-    (quietly b v (onX b v .value) (onY b v .value) (onX b v .violated) (onY b v .violated) _ (f .x) (f .y) (f .stayed))
+    rw (never-ends (v .continues) (movedX b v .violated) (movedY b v .violated) (f .x) (f .y))
+    (quietly b v (movedX b v .value) (movedY b v .value) (movedX b v .violated) (movedY b v .violated) _ (f .x) (f .y) (f .stayed))
 
 -- a sequence of registers r whose next move is v
 module _ (k : ℕ) (r : Registers) (ps : List ℕ) (place : ℕ) (v : Move) (q : nextMove (r .motion) (r .base .mode) (r .base .scale) ≡ Going v) where
@@ -104,21 +99,15 @@ module _ (k : ℕ) (r : Registers) (ps : List ℕ) (place : ℕ) (v : Move) (q :
     full h = stays-at (rw (p, plainly (r .base) v p) (lt-leb _ _ h))
 
     pub moves-on : place + length (points (lights (r .base) v)) ≤ length ps →
-        sequence (suc k) r ps place ≡ sequence k (at (r .base) (onX (r .base) v .value) (onY (r .base) v .value) (v .motion)) (sets ps place (points (lights (r .base) v))) (place + length (points (lights (r .base) v)))
+        sequence (suc k) r ps place ≡ sequence k (at (r .base) (movedX (r .base) v .value) (movedY (r .base) v .value) (v .motion)) (sets ps place (points (lights (r .base) v))) (place + length (points (lights (r .base) v)))
     unfolding pick
     moves-on h = onward ∙ rw (p, plainly (r .base) v p, le-leb _ _ h)
 
--- the tests of the code are the tests of a plain move, and where they hold the beam arrives where the code adds up
-module _ (b : Base) (v : Move) (x : b .x < 8192) (y : b .y < 8192) (travelx : v .travelx ≤ 8) (travely : v .travely ≤ 8) where
-  pub tested : plain b v ≡ (goesOn (v .motion) && not (v .escape && not (v .continues)) && clear (dimension (bits (b .conditions) 6 7)) (b .x) (step (v .travelx) (v .minusx)) && clear (dimension (bits (b .conditions) 4 5)) (b .y) (step (v .travely) (v .minusy)))
-  unfolding plain
-  tested = rw (clear-moved _ _ _ (v .minusx) x travelx, clear-moved _ _ _ (v .minusy) y travely)
-
-  pub value-x : plain b v ≡ true → onX b v .value ≡ (b .x + step (v .travelx) (v .minusx)) % 2 ^ 16
-  value-x p = clear-value _ _ _ (v .minusx) x travelx (facts b v p .x)
-
-  pub value-y : plain b v ≡ true → onY b v .value ≡ (b .y + step (v .travely) (v .minusy)) % 2 ^ 16
-  value-y p = clear-value _ _ _ (v .minusy) y travely (facts b v p .y)
+-- where a move arrives, as the code has it, tells whether it is plain
+pub tested : (b : Base) (v : Move) {x y : Reached} → movedX b v ≡ x → movedY b v ≡ y →
+    plain b v ≡ (goesOn (v .motion) && not (v .escape && not (v .continues)) && not (x .violated) && not (y .violated))
+unfolding plain
+tested b v ex ey = rw (ex, ey)
 
 -- how far a loop has come, with the beam at x and y, the motion m and n moves left: the sequence from here is the sequence from the start
 pub record Far (n₀ : ℕ) (r₀ : Registers) (ps₀ : List ℕ) (place₀ : ℕ) (b : Base) (n x y : ℕ) (m : Motion) (ps : List ℕ) (place : ℕ) : Type 0 where
@@ -157,30 +146,23 @@ module _ {n₀ : ℕ} {r₀ : Registers} {ps₀ : List ℕ} {place₀ : ℕ} {b 
     pub violates : plain (beamAt b x y) v ≡ false → Shown n₀ r₀ ps₀ place₀ b n x y m ps place
     violates p = shows (rw some (stops n′ (at b x y m) ps place v q p))
 
-    -- a plain move, with what the code adds up and lights
-    module _ (travelx : v .travelx ≤ 8) (travely : v .travely ≤ 8) (p : plain (beamAt b x y) v ≡ true) {x′ y′ : ℕ}
-        (ex : x′ ≡ (x + step (v .travelx) (v .minusx)) % 2 ^ 16) (ey : y′ ≡ (y + step (v .travely) (v .minusy)) % 2 ^ 16)
-        {lit : Lit} (el : lit ≡ litAt b x′ y′ (v .asked) false) where
-      at-x : onX (beamAt b x y) v .value ≡ x′
-      at-x = value-x (beamAt b x y) v (h .good .base .x) (h .good .base .y) travelx travely p ∙ sym ex
-
-      at-y : onY (beamAt b x y) v .value ≡ y′
-      at-y = value-y (beamAt b x y) v (h .good .base .x) (h .good .base .y) travelx travely p ∙ sym ey
-
+    -- a plain move, with where the code arrives and what it lights
+    module _ (p : plain (beamAt b x y) v ≡ true) {nextx nexty : Reached} (ex : movedX (beamAt b x y) v ≡ nextx) (ey : movedY (beamAt b x y) v ≡ nexty)
+        {lit : Lit} (el : lit ≡ litAt b (nextx .value) (nexty .value) (v .asked) false) where
       same-lit : lights (beamAt b x y) v ≡ lit
       unfolding litAt
-      same-lit = rw (at-x, at-y) (sym el)
+      same-lit = rw (ex, ey) (sym el)
 
       pub fills : length ps < place + length (points lit) → Shown n₀ r₀ ps₀ place₀ b n x y m ps place
       fills f = shows (rw some (full n′ (at b x y m) ps place v q p (rw same-lit f)))
 
-      pub goes : {ps′ : List ℕ} {place′ : ℕ} → Put lit ps place ps′ place′ → Far n₀ r₀ ps₀ place₀ b n′ x′ y′ (v .motion) ps′ place′
+      pub goes : {ps′ : List ℕ} {place′ : ℕ} → Put lit ps place ps′ place′ → Far n₀ r₀ ps₀ place₀ b n′ (nextx .value) (nexty .value) (v .motion) ps′ place′
       goes {ps′} {place′} w =
           let f = put-at lit ps place ps′ place′ (h .room) w in
           rw (f .1, f .2)
           record {
             size = length-sets ps place (points lit) ∙ h .size;
             room = rw length-sets (f .0);
-            good = rw (plainly (beamAt b x y) v p, at-x, at-y) at (displaced-good (at b x y m) v (h .good) q);
-            whole = h .whole ∙ rw some (rw (same-lit, at-x, at-y) at (moves-on n′ (at b x y m) ps place v q p (rw same-lit (f .0))));
+            good = rw (plainly (beamAt b x y) v p, ex, ey) at (displaced-good (at b x y m) v (h .good) q);
+            whole = h .whole ∙ rw some (rw (same-lit, ex, ey) at (moves-on n′ (at b x y m) ps place v q p (rw same-lit (f .0))));
           }

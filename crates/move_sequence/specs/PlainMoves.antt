@@ -1,13 +1,12 @@
--- Plain moves one after another: the move beats of 01's section 'Data words' as long as each goes on with its motion, violates nothing, escapes nothing and
--- has room for its point. That the turns of a run make the same is proved in runs. Assumes nothing.
+-- No reader has to believe this file: plain moves one after another, as the code makes them ahead of a turn, as long as each goes on with its motion, violates
+-- nothing, escapes nothing and has room for its point. That the turns of a run make the same is proved in runs (MadeAhead.antt). Assumes nothing.
 use Prim.Native.Nat.{ℕ, zero, suc, _+_}
 use mathlib.Core.Bool.{Bool, true, false, not, _&&_}
 use mathlib.Core.List.{List}
 use lib.Dec.{ltb, leb}
 use lib.ListN.{length}
 use lib.Seq.{sets}
-use Rattle.words.specs.Words.{bits, pick}
-use Rattle.paper.specs.DataWords.{dimension, moved}
+use Rattle.words.specs.Words.{pick}
 use Rattle.registers.specs.declared.Base.{Base}
 use Rattle.registers.specs.declared.Motion.{Motion}
 use Rattle.registers.specs.declared.Motion.the-variants.{Nothing, Line, Bytes}
@@ -16,8 +15,8 @@ use Rattle.moves.specs.declared.Move.{Move}
 use Rattle.beam.specs.declared.Outcome.{Outcome}
 use Rattle.moves.specs.declared.Moving.{Moving}
 use Rattle.moves.specs.declared.Moving.the-variants.{Still, Going}
-use Rattle.beam.specs.DataWords.{beamSet, points}
-use Rattle.moves.specs.DataWords.{nextMove, displaced}
+use Rattle.beam.specs.DataWords.{points}
+use Rattle.moves.specs.DataWords.{nextMove, movedX, movedY, displaced}
 use Rattle.move_sequence.specs.declared.Sequence.{Sequence}
 
 -- whether the same motion goes on behind a move: a line's last move ends it, or starts a vector continue over
@@ -31,8 +30,8 @@ unfoldable pub plain : Base → Move → Bool
 plain b v =
     goesOn (v .motion)
     && not (v .escape && not (v .continues))
-    && not (moved (dimension (bits (b .conditions) 6 7)) (b .x) (v .travelx) (v .minusx) .violated)
-    && not (moved (dimension (bits (b .conditions) 4 5)) (b .y) (v .travely) (v .minusy) .violated)
+    && not (movedX b v .violated)
+    && not (movedY b v .violated)
 
 -- what a sequence leaves, with the point list
 pub record SequenceLeft : Type 0 where
@@ -66,7 +65,3 @@ unfoldable pub sequence : ℕ → Registers → List ℕ → ℕ → SequenceLef
 sequence zero r ps place = stays 0 r ps place
 sequence (suc k) r ps place =
     onMove (sequence k) (suc k) r ps place (nextMove (r .motion) (r .base .mode) (r .base .scale))
-
--- the beam elsewhere, every other register as it was
-abbrev pub beamAt : Base → ℕ → ℕ → Base
-beamAt b u v = beamSet b u v (b .datastate) (b .horizontal) (b .vertical) (b .running)

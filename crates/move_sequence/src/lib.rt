@@ -2,12 +2,13 @@
 // run's other tests decide nothing, so they are made in a loop that changes the beam and a count only.
 ghost use mathlib.Core.Path.{_≡_};
 ghost use Prim.Native.Nat.{_+_, _-_, _≤_, _<_};
-ghost use lib.Dec.{ltb};
+ghost use lib.Dec.{leb, ltb};
 ghost use lib.ListN.{length};
 ghost use Rattle.registers.specs.declared.Motion.the-variants.{Line, Bytes};
 ghost use Rattle.registers.specs.Good.{Good};
 ghost use Rattle.words.specs.Words.{pick};
-ghost use Rattle.move_sequence.specs.PlainMoves.{beamAt, sequence, leaves};
+ghost use Rattle.beam.specs.DataWords.{beamAt};
+ghost use Rattle.move_sequence.specs.PlainMoves.{sequence, leaves};
 use beam::Lit;
 use registers::Base;
 use registers::ByteMotion;
@@ -47,49 +48,84 @@ fn end(done: u16, moves: u16, limit: u32) -> u16
     }
 }
 
-// The plain moves of a line, at most `limit` of them.
+// What is left over of a reach once it has passed twice the moves.
+fn left_over(reach: u32, twice: u32) -> u32
+    ensures { λ r. ⌜ r ≡ pick (leb twice reach) (reach - twice) reach ⌝ }
+{
+    if twice <= reach { reach - twice } else { reach }
+}
+
+// The plain moves of a line, at most `limit` of them. The upper bits of a coordinate stay, so the loop carries the low ones; and it carries what each axis has
+// left over, so that no move asks for a division.
 pub fn line_moves(b: Base, l: LineMotion, points: &mut [u32], from: usize, limit: u32) -> Sequence
     requires { ⌜ Good (record { base = b; motion = Line l }) × (from ≤ length (now points)) ⌝ }
     ensures { λ r. ⌜ leaves r (now (points .exit)) ≡ sequence limit (record { base = b; motion = Line l }) (now (points .entry)) from ⌝ }
 {
-    let fieldx = words::bits(b.conditions, 6, 7);
-    let fieldy = words::bits(b.conditions, 4, 5);
+    let placesx = paper::places(beam::field_x(b));
+    let placesy = paper::places(beam::field_y(b));
     let distance = paper::distance(b.scale);
-    let forwardx = paper::step(distance, l.minusx);
-    let forwardy = paper::step(distance, l.minusy);
     let last = end(l.done, l.moves, limit);
-    let mut x = b.x;
-    let mut y = b.y;
+    let mut lowx = b.x % placesx;
+    let mut lowy = b.y % placesy;
+    let upperx = b.x - lowx;
+    let uppery = b.y - lowy;
+    let mut owedx = paper::owed(l.done, l.magx, l.moves);
+    let mut owedy = paper::owed(l.done, l.magy, l.moves);
+    let twice = 2 * (l.moves as u32);
     let mut done = l.done;
     let mut place = from;
     while done < last {
-        let stepx = paper::travel(done, l.magx, l.moves, forwardx);
-        let stepy = paper::travel(done, l.magy, l.moves, forwardy);
-        if paper::clear(fieldx, x, stepx) & paper::clear(fieldy, y, stepy) {
-            let nextx = std::num::wrapping_add_u16(x, stepx);
-            let nexty = std::num::wrapping_add_u16(y, stepy);
-            match beam::lit_at(b, nextx, nexty, l.lit, false) {
-                Lit::Dark => {}
-                Lit::Point(value) => {
-                    if place < points.len() {
-                        points[place] = value;
-                        place += 1;
-                    } else {
-                        let rest = Motion::Line(LineMotion { done, ..l });
-                        return stays(b, x, y, rest, place, limit - ((done - l.done) as u32));
-                    }
+        let reachx = owedx + 2 * (l.magx as u32);
+        let reachy = owedy + 2 * (l.magy as u32);
+        let travelx = words::pick_u8(twice <= reachx, distance, 0);
+        let travely = words::pick_u8(twice <= reachy, distance, 0);
+        let nextx = paper::wrapped(placesx, lowx, travelx, l.minusx);
+        let nexty = paper::wrapped(placesy, lowy, travely, l.minusy);
+        if nextx.violated | nexty.violated {
+            let rest = Motion::Line(LineMotion { done, ..l });
+            return stays(
+                b,
+                upperx + lowx,
+                uppery + lowy,
+                rest,
+                place,
+                limit - ((done - l.done) as u32),
+            );
+        }
+        match beam::lit_at(b, upperx + nextx.value, uppery + nexty.value, l.lit, false) {
+            Lit::Dark => {}
+            Lit::Point(value) => {
+                if place < points.len() {
+                    points[place] = value;
+                    place += 1;
+                } else {
+                    let rest = Motion::Line(LineMotion { done, ..l });
+                    return stays(
+                        b,
+                        upperx + lowx,
+                        uppery + lowy,
+                        rest,
+                        place,
+                        limit - ((done - l.done) as u32),
+                    );
                 }
             }
-            x = nextx;
-            y = nexty;
-            done += 1;
-        } else {
-            let rest = Motion::Line(LineMotion { done, ..l });
-            return stays(b, x, y, rest, place, limit - ((done - l.done) as u32));
         }
+        lowx = nextx.value;
+        lowy = nexty.value;
+        owedx = left_over(reachx, twice);
+        owedy = left_over(reachy, twice);
+        done += 1;
     }
     let rest = Motion::Line(LineMotion { done, ..l });
-    stays(b, x, y, rest, place, limit - ((done - l.done) as u32))
+    stays(
+        b,
+        upperx + lowx,
+        uppery + lowy,
+        rest,
+        place,
+        limit - ((done - l.done) as u32),
+    )
 }
 
 // The plain moves of increment bytes, at most `limit` of them.
@@ -97,11 +133,13 @@ pub fn byte_moves(b: Base, t: ByteMotion, points: &mut [u32], from: usize, limit
     requires { ⌜ Good (record { base = b; motion = Bytes t }) × (from ≤ length (now points)) ⌝ }
     ensures { λ r. ⌜ leaves r (now (points .exit)) ≡ sequence limit (record { base = b; motion = Bytes t }) (now (points .entry)) from ⌝ }
 {
-    let fieldx = words::bits(b.conditions, 6, 7);
-    let fieldy = words::bits(b.conditions, 4, 5);
+    let placesx = paper::places(beam::field_x(b));
+    let placesy = paper::places(beam::field_y(b));
     let distance = paper::distance(b.scale);
-    let mut x = b.x;
-    let mut y = b.y;
+    let mut lowx = b.x % placesx;
+    let mut lowy = b.y % placesy;
+    let upperx = b.x - lowx;
+    let uppery = b.y - lowy;
     let mut bytes = t;
     let mut place = from;
     let mut left = limit;
@@ -110,34 +148,65 @@ pub fn byte_moves(b: Base, t: ByteMotion, points: &mut [u32], from: usize, limit
         let after = m.motion;
         match after {
             Motion::Bytes(next) => {
-                let stepx = paper::step(m.travelx, m.minusx);
-                let stepy = paper::step(m.travely, m.minusy);
-                if paper::clear(fieldx, x, stepx) & paper::clear(fieldy, y, stepy) & !m.escape {
-                    let nextx = std::num::wrapping_add_u16(x, stepx);
-                    let nexty = std::num::wrapping_add_u16(y, stepy);
-                    match beam::lit_at(b, nextx, nexty, m.asked, false) {
-                        Lit::Dark => {}
-                        Lit::Point(value) => {
-                            if place < points.len() {
-                                points[place] = value;
-                                place += 1;
-                            } else {
-                                return stays(b, x, y, Motion::Bytes(bytes), place, left);
-                            }
+                let nextx = paper::wrapped(placesx, lowx, m.travelx, m.minusx);
+                let nexty = paper::wrapped(placesy, lowy, m.travely, m.minusy);
+                if nextx.violated | nexty.violated | m.escape {
+                    return stays(
+                        b,
+                        upperx + lowx,
+                        uppery + lowy,
+                        Motion::Bytes(bytes),
+                        place,
+                        left,
+                    );
+                }
+                match beam::lit_at(
+                    b,
+                    upperx + nextx.value,
+                    uppery + nexty.value,
+                    m.asked,
+                    false,
+                ) {
+                    Lit::Dark => {}
+                    Lit::Point(value) => {
+                        if place < points.len() {
+                            points[place] = value;
+                            place += 1;
+                        } else {
+                            return stays(
+                                b,
+                                upperx + lowx,
+                                uppery + lowy,
+                                Motion::Bytes(bytes),
+                                place,
+                                left,
+                            );
                         }
                     }
-                    x = nextx;
-                    y = nexty;
-                    bytes = next;
-                    left -= 1;
-                } else {
-                    return stays(b, x, y, Motion::Bytes(bytes), place, left);
                 }
+                lowx = nextx.value;
+                lowy = nexty.value;
+                bytes = next;
+                left -= 1;
             }
             _ => {
-                return stays(b, x, y, Motion::Bytes(bytes), place, left);
+                return stays(
+                    b,
+                    upperx + lowx,
+                    uppery + lowy,
+                    Motion::Bytes(bytes),
+                    place,
+                    left,
+                );
             }
         }
     }
-    stays(b, x, y, Motion::Bytes(bytes), place, left)
+    stays(
+        b,
+        upperx + lowx,
+        uppery + lowy,
+        Motion::Bytes(bytes),
+        place,
+        left,
+    )
 }

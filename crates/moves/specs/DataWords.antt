@@ -1,18 +1,18 @@
 -- Section 'Data words' of 01: move beats. The paper's rules are in paper's file of this name, where the beam arrives is in beam's, the words are in drawing's.
 -- Assumes nothing.
-use Prim.Native.Nat.{ℕ, _+_, _-_, _*_, _/_, _%_}
+use Prim.Native.Nat.{ℕ, _+_, _-_, _/_, _%_}
 use mathlib.Core.Bool.{Bool, true, false, not, _&&_, _||_}
 use lib.Dec.{eqb, ltb, leb}
-use Rattle.words.specs.Words.{bits, pick}
-use Rattle.paper.specs.DataWords.{distance, dimension, moved, advance}
+use Rattle.words.specs.Words.{pick}
+use Rattle.paper.specs.declared.Reached.{Reached}
+use Rattle.paper.specs.DataWords.{distance, dimension, moved, travel}
 use Rattle.registers.specs.declared.Base.{Base}
 use Rattle.registers.specs.declared.LineMotion.{LineMotion}
 use Rattle.registers.specs.declared.ByteMotion.{ByteMotion}
 use Rattle.registers.specs.declared.Motion.{Motion}
 use Rattle.registers.specs.declared.Motion.the-variants.{Nothing, Line, Bytes}
 use Rattle.registers.specs.Registers.{byteAt, movesAsked, escapes}
-use Rattle.registers.specs.Good.{GoodLine}
-use Rattle.beam.specs.DataWords.{arrived, stillEnd}
+use Rattle.beam.specs.DataWords.{fieldX, fieldY, arrived, stillEnd}
 use Rattle.moves.specs.declared.Move.{Move}
 use Rattle.beam.specs.declared.Outcome.{Outcome}
 use Rattle.moves.specs.declared.Moving.{Moving}
@@ -37,14 +37,14 @@ unfoldable pub lineNext : LineMotion → Bool → Motion
 lineNext l continues =
     pick (ltb (l .done + 1) (l .moves)) (Line (withDone l (l .done + 1))) (pick continues (Line (withDone l 0)) Nothing)
 
--- a line's move: each axis goes what the move adds to its offset, times the distance; the escape takes effect with the last beat, which in a vector
--- continue is the one that ends it
+-- a line's move: each axis goes the distance where the move adds to its offset; the escape takes effect with the last beat, which in a vector continue is the
+-- one that ends it
 unfoldable pub lineMove : LineMotion → ℕ → Bool → Move
 lineMove l s continues =
     record {
       motion = lineNext l continues;
-      travelx = advance (l .done) (l .magx) (l .moves) * s;
-      travely = advance (l .done) (l .magy) (l .moves) * s;
+      travelx = travel (l .done) (l .magx) (l .moves) s;
+      travely = travel (l .done) (l .magy) (l .moves) s;
       minusx = l .minusx;
       minusy = l .minusy;
       asked = l .lit;
@@ -88,22 +88,23 @@ byteMove t s =
       continues = false;
     }
 
--- a line under way is in range
-abbrev pub GoodLineIn : Motion → Type 0
-GoodLineIn Nothing = Unit {0}
-GoodLineIn (Line l) = GoodLine l
-GoodLineIn (Bytes t) = Unit {0}
-
 -- the next move of a motion; mode 3 is vector continue
 unfoldable pub nextMove : Motion → ℕ → ℕ → Moving
 nextMove Nothing mode scale = Still
 nextMove (Line l) mode scale = Going (lineMove l (distance scale) (eqb mode 3))
 nextMove (Bytes t) mode scale = Going (byteMove t (distance scale))
 
--- a move made: x's dimension by condition bits 6, 7, y's by 4, 5
+-- where a move takes each axis
+abbrev pub movedX : Base → Move → Reached
+movedX b m = moved (dimension (fieldX b)) (b .x) (m .travelx) (m .minusx)
+
+abbrev pub movedY : Base → Move → Reached
+movedY b m = moved (dimension (fieldY b)) (b .y) (m .travely) (m .minusy)
+
+-- a move made
 unfoldable pub displaced : Base → Move → Outcome
 displaced b m =
-    let x = moved (dimension (bits (b .conditions) 6 7)) (b .x) (m .travelx) (m .minusx) in
-    let y = moved (dimension (bits (b .conditions) 4 5)) (b .y) (m .travely) (m .minusy) in
+    let x = movedX b m in
+    let y = movedY b m in
     pick (m .continues && (x .violated || y .violated)) (stillEnd b (m .escape))
     (arrived b (m .motion) x y (m .asked) (m .escape && not (m .continues)))

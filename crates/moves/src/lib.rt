@@ -1,7 +1,6 @@
 // Move beats: what a line or a byte does next, and the move made.
 ghost use mathlib.Core.Path.{_≡_};
-ghost use Rattle.registers.specs.Good.{GoodLine};
-ghost use Rattle.moves.specs.DataWords.{lineNext, lineMove, byteNext, byteMove, GoodLineIn, nextMove, displaced};
+ghost use Rattle.moves.specs.DataWords.{lineNext, lineMove, byteNext, byteMove, nextMove, displaced};
 use beam::Outcome;
 use registers::Base;
 use registers::ByteMotion;
@@ -12,8 +11,8 @@ use registers::Motion;
 // continues belongs to a vector continue.
 pub struct Move {
     pub motion: Motion,
-    pub travelx: u16,
-    pub travely: u16,
+    pub travelx: u8,
+    pub travely: u8,
     pub minusx: bool,
     pub minusy: bool,
     pub asked: bool,
@@ -28,12 +27,14 @@ pub enum Moving {
 
 // A line after one more move.
 fn line_next(l: LineMotion, continues: bool) -> Motion
-    requires { ⌜ GoodLine l ⌝ }
     ensures { λ r. ⌜ r ≡ lineNext l continues ⌝ }
 {
-    let done = l.done + 1;
-    if done < l.moves {
-        Motion::Line(LineMotion { done, ..l })
+    // In 32 bits, where the sum fits whatever arrives.
+    if (l.done as u32) + 1 < (l.moves as u32) {
+        Motion::Line(LineMotion {
+            done: l.done + 1,
+            ..l
+        })
     } else if continues {
         Motion::Line(LineMotion { done: 0, ..l })
     } else {
@@ -41,14 +42,13 @@ fn line_next(l: LineMotion, continues: bool) -> Motion
     }
 }
 
-fn line_move(l: LineMotion, distance: u16, continues: bool) -> Move
-    requires { ⌜ GoodLine l ⌝ }
+fn line_move(l: LineMotion, distance: u8, continues: bool) -> Move
     ensures { λ r. ⌜ r ≡ lineMove l distance continues ⌝ }
 {
     let motion = line_next(l, continues);
     let travelx = paper::travel(l.done, l.magx, l.moves, distance);
     let travely = paper::travel(l.done, l.magy, l.moves, distance);
-    let last = l.moves <= l.done + 1;
+    let last = (l.moves as u32) <= (l.done as u32) + 1;
     Move {
         motion,
         travelx,
@@ -83,7 +83,7 @@ fn byte_next(t: ByteMotion, escape: bool) -> Motion
     }
 }
 
-pub fn byte_move(t: ByteMotion, distance: u16) -> Move
+pub fn byte_move(t: ByteMotion, distance: u8) -> Move
     ensures { λ r. ⌜ r ≡ byteMove t distance ⌝ }
 {
     let byte = registers::byte_at(t.word, t.right);
@@ -94,8 +94,8 @@ pub fn byte_move(t: ByteMotion, distance: u16) -> Move
     let right = (direction == 0) | (direction == 1) | (direction == 7);
     let up = (1 <= direction) & (direction <= 3);
     let down = (5 <= direction) & (direction <= 7);
-    let travelx = words::pick_u16(left | right, distance, 0);
-    let travely = words::pick_u16(up | down, distance, 0);
+    let travelx = words::pick_u8(left | right, distance, 0);
+    let travely = words::pick_u8(up | down, distance, 0);
     Move {
         motion,
         travelx,
@@ -110,7 +110,6 @@ pub fn byte_move(t: ByteMotion, distance: u16) -> Move
 
 // The next move of a motion.
 pub fn next_move(m: Motion, mode: u8, scale: u8) -> Moving
-    requires { ⌜ GoodLineIn m ⌝ }
     ensures { λ r. ⌜ r ≡ nextMove m mode scale ⌝ }
 {
     match m {
@@ -124,8 +123,8 @@ pub fn next_move(m: Motion, mode: u8, scale: u8) -> Moving
 pub fn displaced(b: Base, m: Move) -> Outcome
     ensures { λ r. ⌜ r ≡ displaced b m ⌝ }
 {
-    let x = paper::moved(words::bits(b.conditions, 6, 7), b.x, m.travelx, m.minusx);
-    let y = paper::moved(words::bits(b.conditions, 4, 5), b.y, m.travely, m.minusy);
+    let x = paper::moved(beam::field_x(b), b.x, m.travelx, m.minusx);
+    let y = paper::moved(beam::field_y(b), b.y, m.travely, m.minusy);
     if m.continues & (x.violated | y.violated) {
         beam::still_end(b, m.escape)
     } else {

@@ -12,6 +12,9 @@ line-next-spec =
     tie.close
     (tie.spec
     (λ c. search needs)
-    (λ c. rw (lt-ltb _ _ (c .if1 .taken)))
+    (λ c. search needs)
+    (λ c. search needs)
+    (λ c. search needs)
+    (λ c. rw (lt-ltb _ _ (c .before .if1 .taken)))
     (λ c. rw (le-ltb _ _ (c .before .if1 .left), c .if2 .taken))
     (λ c. rw (le-ltb _ _ (c .before .if1 .left), c .if2 .left)))

@@ -12,7 +12,7 @@ next-move-spec =
     (λ c. search needs)
     (λ c. search needs)
     (λ c κs. search needs)
-    (λ c κs. rw (c .before .before .m .given .1) at (c .before .before .before .before .pre))
+    (λ c κs. search needs)
     (λ c. search needs)
     (λ c κs. search needs)
     (λ c κs. search needs)

@@ -1,7 +1,6 @@
 // A beat, by the registers that make it; and one turn of a run, which may end before the beat.
 ghost use mathlib.Core.Path.{_≡_};
 ghost use mathlib.Core.Bool.{true, false};
-ghost use Rattle.moves.specs.DataWords.{GoodLineIn};
 ghost use Rattle.touches.specs.Touches.{Does, whole, walk};
 ghost use Rattle.touches.specs.Said.{said};
 ghost use Rattle.turns.specs.OneTurn.{longBeat, dataBeat, unheld, commandBeat, unusable, idleBeat, roomFor, turn};
@@ -109,7 +108,7 @@ fn idle_beat(b: Base, l: Loan, memory: &[u16], room: usize) -> Turn
 
 // One turn: the beat, if its touches can be made and there is room for its point. Control words are control_sequence's.
 pub fn turn(r: Registers, l: Loan, memory: &[u16], room: usize) -> Turn
-    requires { ⌜ GoodLineIn (r .motion) × Drawing r ⌝ }
+    requires { ⌜ Drawing r ⌝ }
     ensures { λ q. ⌜ said q ≡ turn l room r (now (memory .entry)) ⌝ }
 {
     let m = r.motion;

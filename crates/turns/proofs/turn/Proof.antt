@@ -18,7 +18,7 @@ turn-spec =
     (λ c κs. search needs)
     (λ c κs. search needs)
     (λ c. search needs)
-    (λ c κs. c .before .before .before .before .before .pre .1 (still _ _ _ (sym (c .before .before .next-move .ensures) ∙ c .enum-told .given .1)))
+    (λ c κs. c .before .before .before .before .before .pre (still _ _ _ (sym (c .before .before .next-move .ensures) ∙ c .enum-told .given .1)))
     (λ c. let a = c .before .before .before .before .before .before .before .before .args in
     let w : Does (whole (c .before .displaced .result)) ≡ walk (a .l) (now (a .memory)) (beat (a .r)) = rw (c .before .displaced .ensures) (sym (ap (λ z. walk (a .l) (now (a .memory)) (beatBy (a .r .base) z)) (sym (c .before .before .before .before .before .next-move .ensures) ∙ c .before .before .before .v .given .1))) in
     c .roomed .ensures ∙ ap (roomFor (a .room)) w)

@@ -18,4 +18,9 @@ play-spec =
     (λ c κs. search needs)
     (λ c κs. search needs)
     (λ c. search needs)
-    (λ c. (rw (shown _ _ (c .before .before .before .before .before .before .before .before .before .before .before .before .before .before .begun .ensures) (rw (c .before .before .before .before .before .before .before .before .before .before .before .before .before .before .before .room .ensures) at (c .before .before .before .before .before .before .before .before .before .before .before .call .ensures)) (c .before .before .before .before .before .before .before .before .before .numbered .ensures)) (behind _ _ _ (c .before .before .before .before .before .before .put-points .ensures) (c .before .before .put-ending .ensures)), short _ _ (c .before .before .before .before .before .before .before .before .before .before .before .before .before .before .begun .ensures) (rw (c .before .before .before .before .before .before .before .before .before .before .before .before .before .before .before .room .ensures) at (c .before .before .before .before .before .before .before .before .before .before .before .call .ensures)) (c .before .before .before .before .before .before .before .before .before .numbered .ensures) (c .before .before .before .before .before .before .before .before .before .before .points2 .given))))
+    (λ c. let drawn = c .before .before .before .before .before .before in
+    let told = drawn .before .before .before in
+    let ran = told .before .before in
+    let begun = ran .before .before .before in
+    let called = rw (begun .before .room .ensures) at (ran .call .ensures) in
+    (rw (shown _ _ (begun .begun .ensures) called (told .numbered .ensures)) (behind _ _ _ (drawn .put-points .ensures) (c .before .before .put-ending .ensures)), short _ _ (begun .begun .ensures) called (told .numbered .ensures) (told .before .points2 .given))))

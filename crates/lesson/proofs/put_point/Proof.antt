@@ -30,4 +30,9 @@ put-point-spec =
     (λ c κs. search needs)
     (λ c κs. search needs)
     (λ c. search needs)
-    (λ c. by (c .before .before .before .before .before .before .before .before .before .before .before .before .before .before .before .before .before .before .before .before .before .args .point) _ (c .before .before .before .before .before .before .before .before .before .before .before .before .before .before .before .before .before .put-number .ensures) (c .before .before .before .before .before .before .before .before .before .before .before .before .before .before .before .before .before .before .before .point-x .ensures) (c .before .before .before .before .before .before .before .before .before .before .before .before .put-number2 .ensures) (c .before .before .before .before .before .before .before .before .before .before .before .before .before .before .point-y .ensures) (c .before .before .before .before .before .before .before .put-number3 .ensures) (c .before .before .before .before .before .before .before .before .before .point-intensity .ensures) (c .before .before .put-number4 .ensures) (c .before .before .before .before .point-blink .ensures)))
+    (λ c. let fourth = c .before .before in
+    let third = fourth .before .before .before .before .before in
+    let second = third .before .before .before .before .before in
+    let first = second .before .before .before .before .before in
+    by (first .before .before .before .before .args .point) _ (first .put-number .ensures) (first .before .before .point-x .ensures) (second .put-number2 .ensures) (second .before .before .point-y .ensures)
+    (third .put-number3 .ensures) (third .before .before .point-intensity .ensures) (fourth .put-number4 .ensures) (fourth .before .before .point-blink .ensures)))

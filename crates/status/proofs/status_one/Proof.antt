@@ -30,4 +30,19 @@ status-one-spec =
     (λ c. search needs)
     (λ c κs. search needs)
     (λ c. search needs)
-    (λ c. rw (c .break-field .ensures, c .before .flag-at9 .ensures .is, c .before .before .flag-at8 .ensures .is, c .before .before .before .before .flag-at7 .ensures .is, c .before .before .before .before .before .flag-at6 .ensures .is, c .before .before .before .before .before .before .before .flag-at5 .ensures .is, c .before .before .before .before .before .before .before .before .flag-at4 .ensures .is, c .before .before .before .before .before .before .before .before .before .flag-at3 .ensures .is, c .before .before .before .before .before .before .before .before .before .before .flag-at2 .ensures .is, c .before .before .before .before .before .before .before .before .before .before .before .flag-at .ensures .is, c .before .before .before .before .before .before .before .before .before .before .before .before .interrupts .ensures, c .before .before .before .before .before .before .before .before .before .before .before .before .before .sector-zero .ensures)))
+    (λ c. let sixth = c .before .before .before .before .before in
+    let fifth = sixth .before .before in
+    rw (
+      c .break-field .ensures,
+      c .before .flag-at9 .ensures .is,
+      c .before .before .flag-at8 .ensures .is,
+      c .before .before .before .before .flag-at7 .ensures .is,
+      sixth .flag-at6 .ensures .is,
+      fifth .flag-at5 .ensures .is,
+      fifth .before .flag-at4 .ensures .is,
+      fifth .before .before .flag-at3 .ensures .is,
+      fifth .before .before .before .flag-at2 .ensures .is,
+      fifth .before .before .before .before .flag-at .ensures .is,
+      fifth .before .before .before .before .before .interrupts .ensures,
+      fifth .before .before .before .before .before .before .sector-zero .ensures,
+    )))

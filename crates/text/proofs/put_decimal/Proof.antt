@@ -26,4 +26,9 @@ put-decimal-spec =
     (λ c. search needs)
     (λ c κs. search needs)
     (λ c. search needs)
-    (λ c. by (c .before .before .before .before .before .before .before .before .before .before .before .before .before .before .before .before .before .before .before .before .before .args .value) _ (c .before .before .before .before .before .before .before .before .before .before .before .before .before .before .before .before .before .before .put-figure .ensures) (c .before .before .before .before .before .before .before .before .before .before .before .before .before .before .put-figure2 .ensures) (c .before .before .before .before .before .before .before .before .before .before .put-figure3 .ensures) (c .before .before .before .before .before .before .put-figure4 .ensures) (c .before .before .put .ensures)))
+    (λ c. let fifth = c .before .before in
+    let fourth = fifth .before .before .before .before in
+    let third = fourth .before .before .before .before in
+    let second = third .before .before .before .before in
+    let first = second .before .before .before .before in
+    by (first .before .before .before .args .value) _ (first .put-figure .ensures) (second .put-figure2 .ensures) (third .put-figure3 .ensures) (fourth .put-figure4 .ensures) (fifth .put .ensures)))

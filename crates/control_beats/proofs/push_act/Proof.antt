@@ -4,8 +4,15 @@ use Rattle.control_beats.specs.ControlWords.{pushAct}
 use Rattle.control_beats.proofs.push_act.Statement.{statement}
 use Rattle.control_beats.proofs.push_act.Tie as tie
 
-pub push-act-spec : {M : Type 1} → statement M
+returns : tie.Need-returns
 unfolding pushAct
+returns c =
+    let next = c .before .before in
+    let at = next .before .before in
+    rw (c .pushed-second .ensures, c .before .pushed-first .ensures, next .in-field-zero2 .ensures, next .before .after .ensures)
+    (rw (at .in-field-zero .ensures, at .before .push .ensures))
+
+pub push-act-spec : {M : Type 1} → statement M
 push-act-spec =
     tie.close
     (tie.spec
@@ -15,4 +22,4 @@ push-act-spec =
     (λ c κs. search needs)
     (λ c κs. search needs)
     (λ c κs. search needs)
-    (λ c. rw (c .pushed-second .ensures, c .before .pushed-first .ensures, c .before .before .in-field-zero2 .ensures, c .before .before .before .after .ensures, c .before .before .before .before .in-field-zero .ensures, c .before .before .before .before .before .push .ensures)))
+    returns)

@@ -13,4 +13,6 @@ store-spec =
     (λ c κs. search needs)
     (λ c. search needs)
     (λ c. search needs)
-    (λ c. let first = c .before .before .before .before .before .before in rw (first .before .before .before .stores .given .1, c .before .before .write2 .ensures, first .write .ensures)))
+    (λ c.
+    let first = c .before .before .before .before .before .before in
+    rw (first .before .before .before .stores .given .1, c .before .before .write2 .ensures, first .write .ensures)))

@@ -1,17 +1,58 @@
 -- `turns::long_beat` meets its promise: the second word is fetched, then the mode picks. Assumes nothing.
+use Prim.Native.Nat.{ℕ}
 use mathlib.Core.Path.{_≡_, sym, ap, _∙_}
 use denote.Ref.{now}
+use borrow.Author.Needs.{needs}
 use borrow.Author.Tests.{eq-eqb, ne-eqb}
 use Rattle.words.specs.Words.{pick}
-use Rattle.touches.specs.Touches.{Does, whole, fetched, allowed, walk}
+use Rattle.touches.specs.declared.Why.{Why}
+use Rattle.touches.specs.declared.Got.the-variants.{Word, Not}
+use Rattle.touches.specs.Touches.{Beat, Turn, Fails, allowed, walk}
 use Rattle.touches.proofs.Walk.{walk-word, walk-not}
 use Rattle.turns.specs.OneTurn.{longer, longBeat, roomFor}
-use borrow.Author.Needs.{needs}
 use Rattle.turns.proofs.long_beat.Statement.{statement}
 use Rattle.turns.proofs.long_beat.Tie as tie
 
+-- behind the fetch of the second word
+module _ (c : tie.After-fetched) where
+  abbrev called : tie.Start
+  called = c .before .before .before
+
+  abbrev made : Beat → Turn
+  made b = roomFor (called .args .room) (walk (called .args .l) (now (called .args .memory)) b)
+
+  abbrev whole : Beat
+  whole = longBeat (called .args .b) (called .args .word)
+
+  abbrev behind : ℕ → Beat
+  behind = longer (called .args .b) (called .args .word)
+
+  second-word : {w : ℕ} → c .fetched .result ≡ Word w → made whole ≡ made (behind w)
+  unfolding longBeat
+  second-word e = ap (roomFor (called .args .room)) (walk-word _ _ _ behind (rw (← c .before .after .ensures) (c .fetched .ensures)) e)
+
+  no-second : {why : Why} → c .fetched .result ≡ Not why → made whole ≡ Fails why
+  unfolding longBeat roomFor
+  no-second e = ap (roomFor (called .args .room)) (walk-not _ _ _ behind (rw (← c .before .after .ensures) (c .fetched .ensures)) e)
+
+returns : tie.Need-returns
+unfolding walk allowed pick
+returns c =
+    let known = c .before .before .before in
+    let second = second-word (known .before .before .before .before) (known .before .before .second .given .1) in
+    c .roomed .ensures ∙ sym (second ∙ rw (eq-eqb _ _ (c .before .before .if1 .taken), c .before .point .ensures))
+
+returns-2 : tie.Need-returns-2
+unfolding walk allowed pick
+returns-2 c =
+    let known = c .before .before .before in
+    let second = second-word (known .before .before .before .before) (known .before .before .second .given .1) in
+    c .roomed2 .ensures ∙ sym (second ∙ rw (ne-eqb _ _ (c .before .before .if1 .left), c .before .vector .ensures))
+
+returns-3 : tie.Need-returns-3
+returns-3 c = sym (no-second (c .before .before .before) (c .before .why .given .1))
+
 pub long-beat-spec : {M : Type 1} → statement M
-unfolding longBeat walk allowed pick roomFor
 long-beat-spec =
     tie.close
     (tie.spec
@@ -23,13 +64,6 @@ long-beat-spec =
     (λ c κs. search needs)
     (λ c κs. search needs)
     (λ c. search needs)
-    (λ c. let a = c .before .before .before .before .before .before .before .before .before .before .args in
-    let e = walk-word (a .l) (now (a .memory)) _ (longer (a .b) (a .word)) (c .before .before .before .before .before .before .before .fetched .ensures ∙ ap (fetched (a .l) (now (a .memory))) (c .before .before .before .before .before .before .before .before .after .ensures)) (c .before .before .before .before .before .second .given .1) in
-    let w : Does (whole (c .before .point .result)) ≡ walk (a .l) (now (a .memory)) (longBeat (a .b) (a .word)) = sym (e ∙ rw (eq-eqb _ _ (c .before .before .if1 .taken), c .before .point .ensures)) in
-    c .roomed .ensures ∙ ap (roomFor (a .room)) w)
-    (λ c. let a = c .before .before .before .before .before .before .before .before .before .before .args in
-    let e = walk-word (a .l) (now (a .memory)) _ (longer (a .b) (a .word)) (c .before .before .before .before .before .before .before .fetched .ensures ∙ ap (fetched (a .l) (now (a .memory))) (c .before .before .before .before .before .before .before .before .after .ensures)) (c .before .before .before .before .before .second .given .1) in
-    let w : Does (whole (c .before .vector .result)) ≡ walk (a .l) (now (a .memory)) (longBeat (a .b) (a .word)) = sym (e ∙ rw (ne-eqb _ _ (c .before .before .if1 .left), c .before .vector .ensures)) in
-    c .roomed2 .ensures ∙ ap (roomFor (a .room)) w)
-    (λ c. let a = c .before .before .before .before .before .before .args in
-    sym (ap (roomFor (a .room)) (walk-not (a .l) (now (a .memory)) _ (longer (a .b) (a .word)) (c .before .before .before .fetched .ensures ∙ ap (fetched (a .l) (now (a .memory))) (c .before .before .before .before .after .ensures)) (c .before .why .given .1)))))
+    returns
+    returns-2
+    returns-3)

@@ -1,4 +1,4 @@
--- No run leaves registers that refusal 4 refuses: a turn keeps them in range (beats' Fine.antt), and so does a run, turn by turn. Assumes nothing.
+-- No run leaves registers that refusal 4 refuses: a turn keeps them in range (turns' Fine.antt), and so does a run, turn by turn. Assumes nothing.
 use Prim.Native.Nat.{ℕ, zero, suc, _-_}
 use mathlib.Core.Path.{_≡_}
 use mathlib.Core.Bool.{true}
@@ -12,8 +12,6 @@ use Rattle.registers.specs.Good.{Good}
 use Rattle.registers.proofs.InRange.{good, formed}
 use Rattle.loan.specs.declared.Loan.{Loan}
 use Rattle.loan.specs.Loan.{fairLoan}
-use Rattle.loan.specs.Fair.{Fair}
-use Rattle.loan.proofs.Touches.{fair}
 use Rattle.touches.specs.Touches.{Turn, Fails, Rests, Does, store}
 use Rattle.beam.specs.DataWords.{points}
 use Rattle.turns.specs.OneTurn.{turn}
@@ -25,7 +23,7 @@ use Rattle.runs.specs.Runs.{Run, Go, follow, onward, run, CallLeft}
 use Rattle.calls.specs.Calls.{entered, call, KeepsInRange}
 use Rattle.endings.proofs.Kept.{rested-good}
 
-module _ (l : Loan) (f : Fair l) where
+module _ (l : Loan) where
   onward-good : (go : Go) → ((room : ℕ) (r : Registers) → Good r → (m : List ℕ) → Good (go room r m .registers)) →
       (room : ℕ) (r : Registers) → Good r → (m : List ℕ) (t : Turn) → FineTurn room t → Good (onward go room r m t .registers)
   onward-good go ih room r g m (Fails why) h = g
@@ -39,7 +37,7 @@ module _ (l : Loan) (f : Fair l) where
   run-good : (k room : ℕ) (r : Registers) → Good r → (m : List ℕ) → Good (run k l room r m .registers)
   unfolding run
   run-good zero room r g m = g
-  run-good (suc k) room r g m = onward-good (run k l) (run-good k) room r g m (turn l room r m) (turn-fine l f room r g m)
+  run-good (suc k) room r g m = onward-good (run k l) (run-good k) room r g m (turn l room r m) (turn-fine l room r g m)
 
   entered-good : (k room : ℕ) (r : Registers) → Good r → (m : List ℕ) → Good (entered k l room r m .registers)
   unfolding entered
@@ -54,5 +52,5 @@ keeps k l r m ps h =
     pick-case Kept (eqb (length m) 32768)
     (λ _. pick-case Kept (leb k 65535)
     (λ _. pick-case Kept (fairLoan l)
-    (λ f. pick-case Kept (inRange r) (λ _. formed _ (entered-good l (fair l f) k (length ps) r (good r h) m)) (λ _. h)) (λ _. h)) (λ _. h))
+    (λ _. pick-case Kept (inRange r) (λ e. formed _ (entered-good l k (length ps) r (good r e) m)) (λ _. h)) (λ _. h)) (λ _. h))
     (λ _. h)

@@ -2,7 +2,6 @@
 ghost use mathlib.Core.Path.{_≡_};
 ghost use lib.ListN.{length};
 ghost use Rattle.registers.specs.Good.{Good};
-ghost use Rattle.loan.specs.Fair.{Fair};
 ghost use Rattle.runs.specs.Runs.{left, leaves};
 ghost use Rattle.calls.specs.Calls.{refusedRun, entered, call, numbered, KeepsInRange};
 use endings::Ending;
@@ -21,7 +20,7 @@ pub struct Numbers {
 
 // An accepted call: a display that is not running makes no turn.
 fn enter(r: Registers, l: Loan, memory: &mut [u16], points: &mut [u32], budget: u32) -> Ran
-    requires { ⌜ (length (now memory) ≡ 32768) × Fair l × Good r ⌝ }
+    requires { ⌜ Good r ⌝ }
     ensures { λ t. ⌜ leaves t (now (memory .exit)) (now (points .exit)) ≡ left (entered budget l (length (now (points .entry))) r (now (memory .entry))) (now (points .entry)) ⌝ }
 {
     if r.base.running {

@@ -10,7 +10,7 @@ use Rattle.control.proofs.Kept.{parameter-good, mode-good, jump-good, push-good
 use Rattle.skips.proofs.Kept.{skipping-good, flag-skip-good, count-good, sync-good}
 use Rattle.button_skips.proofs.Kept.{button-skip-good, compare-good}
 use Rattle.touches.specs.declared.Act.{Act}
-use Rattle.touches.proofs.Fine.{GoodBeat}
+use Rattle.touches.proofs.Kept.{GoodBeat}
 use Rattle.control_beats.specs.ControlWords.{pushAct, jumpBeat, popBeat, miscellaneous, controlBeat}
 
 module _ (b : Base) (w : ℕ) (g : GoodBase b) where

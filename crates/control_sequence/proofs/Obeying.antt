@@ -9,9 +9,7 @@ use lib.ListN.{length}
 use borrow.Author.Tests.{ltb-true, lt-ltb}
 use Rattle.words.specs.Words.{pick}
 use Rattle.registers.specs.declared.Base.{Base}
-use Rattle.registers.specs.Good.{GoodBase, Good}
 use Rattle.loan.specs.declared.Loan.{Loan}
-use Rattle.loan.specs.Fair.{Fair}
 use Rattle.touches.specs.declared.Act.{Act}
 use Rattle.touches.specs.declared.Got.{Got}
 use Rattle.touches.specs.declared.Got.the-variants.{Word}
@@ -20,15 +18,13 @@ use Rattle.touches.specs.declared.Why.{Why}
 use Rattle.touches.specs.declared.Turn.{Turn as Told}
 use Rattle.touches.specs.Touches.{Turn, Fails, Rests, Does, fetched, walk, store}
 use Rattle.touches.specs.Said.{said}
-use Rattle.touches.proofs.Walk.{walk-word}
-use Rattle.touches.proofs.Fine.{Inside, walk-fine}
+use Rattle.touches.proofs.Walk.{walk-word, length-store}
 use Rattle.endings.specs.declared.Ending.{Ending}
 use Rattle.endings.specs.declared.Ending.the-variants.{Failed}
+use Rattle.endings.specs.declared.Halt.{Halt}
 use Rattle.endings.specs.declared.Halt.the-variants.{Goes, Ends}
 use Rattle.endings.specs.Endings.{halted}
-use Rattle.touches.proofs.Walk.{length-store}
 use Rattle.control_beats.specs.ControlWords.{controlBeat}
-use Rattle.control_beats.proofs.Kept.{control-good}
 use Rattle.turns.specs.OneTurn.{unheld}
 use Rattle.control_sequence.specs.Sequence.{nextWord, ObeyedLeft, stays, follow, onTurn, obey}
 
@@ -38,9 +34,20 @@ onward n b = ltb 0 n && not (b .datastate) && not (b .request)
 
 -- k, l, b₀, m₀ are the call's; n, b, m are the loop's, and f is what the rest of the sequence leaves
 pub record Far (k : ℕ) (l : Loan) (b₀ : Base) (m₀ : List ℕ) (n : ℕ) (b : Base) (m : List ℕ) (f : ObeyedLeft) : Type 0 where
-  pub size : length m ≡ 32768
-  pub good : GoodBase b
+  pub size : length m ≡ length m₀
   pub whole : obey k l b₀ m₀ ≡ f
+
+-- in a turn of the loop
+pub record Within (k : ℕ) (l : Loan) (b₀ : Base) (m₀ : List ℕ) (n : ℕ) (b : Base) (m : List ℕ) : Type 0 where
+  pub far : Far k l b₀ m₀ n b m (obey n l b m)
+  pub on : onward n b ≡ true
+
+-- a beat that it made: m′ is the memory that the beat left, and h what its stop comes to
+pub record Beaten {k : ℕ} {l : Loan} {b₀ : Base} {m₀ : List ℕ} {n : ℕ} {b : Base} {m : List ℕ}
+    (w : Within k l b₀ m₀ n b m) (c : Act) (m′ : List ℕ) (h : Halt) : Type 0 where
+  pub turned : walk l m (nextWord b) ≡ Does c
+  pub stored : m′ ≡ store (c .stores) m
+  pub halt : h ≡ halted (c .stop)
 
 -- the tests of the definition, by the loop's
 some : (p d r : Bool) → (p && not d && not r) ≡ true → (p ≡ true) × ((d || r) ≡ false)
@@ -66,25 +73,23 @@ pub worded : (l : Loan) (m : List ℕ) (b : Base) (t : Told) {g : Got} {w : ℕ}
 worded l m b t {w = w} p q e h =
     walk-word l m (b .address) (controlBeat (unheld b)) p q ∙ ap (λ (c : Base). walk l m (controlBeat c w)) (sym e) ∙ sym h
 
--- at the loop's head
-module _ {k : ℕ} {l : Loan} {b₀ : Base} {m₀ : List ℕ} {n : ℕ} {b : Base} {m : List ℕ} (h : Far k l b₀ m₀ n b m (obey n l b m)) where
-  pub ends : onward n b ≡ false → obey k l b₀ m₀ ≡ stays n b m Goes
-  ends o = h .whole ∙ shut n l b m o
+module _ {k : ℕ} {l : Loan} {b₀ : Base} {m₀ : List ℕ} {n : ℕ} {b : Base} {m : List ℕ} where
+  pub ends : Far k l b₀ m₀ n b m (obey n l b m) → onward n b ≡ false → obey k l b₀ m₀ ≡ stays n b m Goes
+  ends h o = h .whole ∙ shut n l b m o
 
-  -- in a turn of the loop
-  module _ (o : onward n b ≡ true) where
+  module _ (h : Within k l b₀ m₀ n b m) where
+    tested : (ltb 0 n ≡ true) × ((b .datastate || b .request) ≡ false)
+    tested = some (ltb 0 n) (b .datastate) (b .request) (h .on)
+
     pub left-some : 0 < n
-    left-some = ltb-true 0 n (some (ltb 0 n) (b .datastate) (b .request) o .0)
+    left-some = ltb-true 0 n (tested .0)
 
     one-more : suc (n - 1) ≡ n
     one-more = omega (arith, left-some)
 
     made : {t : Turn} → walk l m (nextWord b) ≡ t → obey k l b₀ m₀ ≡ onTurn (obey (n - 1) l) (n - 1) b m t
     unfolding obey pick
-    made q =
-        h .whole
-        ∙ ap (λ (j : ℕ). obey j l b m) (sym one-more)
-        ∙ rw (some (ltb 0 n) (b .datastate) (b .request) o .1, q)
+    made q = h .far .whole ∙ ap (λ (j : ℕ). obey j l b m) (sym one-more) ∙ rw (tested .1, q)
 
     pub fails : {why : Why} → walk l m (nextWord b) ≡ Fails why → obey k l b₀ m₀ ≡ stays n b m (Ends (Failed why))
     fails {why} q = made q ∙ ap (λ (j : ℕ). stays j b m (Ends (Failed why))) one-more
@@ -92,17 +97,17 @@ module _ {k : ℕ} {l : Loan} {b₀ : Base} {m₀ : List ℕ} {n : ℕ} {b : Bas
     pub rests : {resting : Resting} → walk l m (nextWord b) ≡ Rests resting → obey k l b₀ m₀ ≡ stays n b m Goes
     rests q = made q ∙ ap (λ (j : ℕ). stays j b m Goes) one-more
 
-    module _ (fair : Fair l) {c : Act} (q : walk l m (nextWord b) ≡ Does c) where
-      pub fine : Good (c .registers) × Inside 32768 (c .stores)
-      fine = rw q at (walk-fine l fair m (nextWord b) (λ w _. control-good (unheld b) w (h .good)))
+  -- after a beat, whether it stops the display or not
+  module _ {w : Within k l b₀ m₀ n b m} {c : Act} {m′ : List ℕ} {h : Halt} (d : Beaten w c m′ h) where
+    beaten : {t : Halt} → h ≡ t → Far k l b₀ m₀ (n - 1) (c .registers .base) m′ (follow (obey (n - 1) l) (n - 1) m c t)
+    beaten e =
+        record {
+          size = rw (d .stored) (length-store (c .stores) m ∙ w .far .size);
+          whole = made w (d .turned) ∙ ap (follow (obey (n - 1) l) (n - 1) m c) (sym (d .halt) ∙ e);
+        }
 
-      -- after a beat, whether it stops the display or not
-      module _ {m′ : List ℕ} (em : m′ ≡ store (c .stores) m) where
-        beaten : {f : ObeyedLeft} → follow (obey (n - 1) l) (n - 1) m c (halted (c .stop)) ≡ f → Far k l b₀ m₀ (n - 1) (c .registers .base) m′ f
-        beaten p = record { size = rw em (length-store (c .stores) m ∙ h .size); good = fine .0 .base; whole = made q ∙ p }
+    pub goes : h ≡ Goes → Far k l b₀ m₀ (n - 1) (c .registers .base) m′ (obey (n - 1) l (c .registers .base) m′)
+    goes e = rw (d .stored) (rw (d .stored) at (beaten e))
 
-        pub goes : halted (c .stop) ≡ Goes → Far k l b₀ m₀ (n - 1) (c .registers .base) m′ (obey (n - 1) l (c .registers .base) m′)
-        goes p = beaten (ap (follow (obey (n - 1) l) (n - 1) m c) p ∙ rw em)
-
-        pub stops : {ending : Ending} → halted (c .stop) ≡ Ends ending → Far k l b₀ m₀ (n - 1) (c .registers .base) m′ (stays (n - 1) (c .registers .base) m′ (Ends ending))
-        stops p = beaten (ap (follow (obey (n - 1) l) (n - 1) m c) p ∙ rw em)
+    pub stops : {ending : Ending} → h ≡ Ends ending → Far k l b₀ m₀ (n - 1) (c .registers .base) m′ (stays (n - 1) (c .registers .base) m′ (Ends ending))
+    stops e = rw (d .stored) (rw (d .stored) at (beaten e))

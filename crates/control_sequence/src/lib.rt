@@ -1,9 +1,6 @@
 // Control words, one after another: the command beats of a display in control state that has no motion and no stop request. Between two of them a
 // run's other tests decide nothing, so they are made in a loop that carries the registers without a motion.
 ghost use mathlib.Core.Path.{_≡_};
-ghost use lib.ListN.{length};
-ghost use Rattle.registers.specs.Good.{GoodBase};
-ghost use Rattle.loan.specs.Fair.{Fair};
 ghost use Rattle.control_sequence.specs.Sequence.{obey, leaves};
 use endings::Ending;
 use endings::Halt;
@@ -22,7 +19,6 @@ pub struct Obeyed {
 // The control words from the display address on, at most `limit` of them, until the display is in data state, is asked to stop or
 // stops, or a word can't be obeyed.
 pub fn obey(start: Base, l: Loan, memory: &mut [u16], limit: u32) -> Obeyed
-    requires { ⌜ (length (now memory) ≡ 32768) × Fair l × GoodBase start ⌝ }
     ensures { λ r. ⌜ leaves r (now (memory .exit)) ≡ obey limit l start (now (memory .entry)) ⌝ }
 {
     let mut base = start;

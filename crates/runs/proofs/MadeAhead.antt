@@ -27,7 +27,6 @@ use Rattle.moves.proofs.Kept.{neither}
 use Rattle.move_sequence.specs.PlainMoves.{plain, SequenceLeft, onMove, sequence}
 use Rattle.move_sequence.proofs.Plain.{both, plainly}
 use Rattle.loan.specs.declared.Loan.{Loan}
-use Rattle.loan.specs.Fair.{Fair}
 use Rattle.touches.specs.declared.Act.{Act}
 use Rattle.touches.specs.Touches.{Turn, Fails, Rests, Does, whole, allowed, walk, store}
 use Rattle.turns.specs.OneTurn.{roomFor, turn}
@@ -42,7 +41,7 @@ use Rattle.control_sequence.proofs.Bare.{Bare, next-bare, turn-control, reached
 use Rattle.runs.specs.declared.Ahead.{Ahead}
 use Rattle.runs.specs.Ahead.{AheadLeft, leaves, afterMoves, aheadBy, makeAhead}
 use Rattle.runs.specs.Runs.{ended, run}
-use Rattle.runs.proofs.Loop.{Far, length-drawn, fails, goes, stops}
+use Rattle.runs.proofs.Loop.{Far, Within, Beaten, length-drawn, fails, goes, stops}
 
 -- a move for whose point there is room is the turn's beat
 moves-turn : (l : Loan) (m : List ℕ) (room : ℕ) (r : Registers) (v : Move) → nextMove (r .motion) (r .base .mode) (r .base .scale) ≡ Going v →
@@ -80,7 +79,7 @@ words-left (suc k) l b m =
         on h Goes = omega arith
         on h (Ends ending) = omega arith
 
-module _ (l : Loan) (fair : Fair l) (m₀ ps₀ : List ℕ) (k : ℕ) (r₀ : Registers) where
+module _ (l : Loan) (m₀ ps₀ : List ℕ) (k : ℕ) (r₀ : Registers) where
   -- the loop's head
   abbrev pub Head : List ℕ → List ℕ → Registers → ℕ → ℕ → Type 0
   Head m ps r b n = Far l m₀ ps₀ k r₀ m ps r b n (run (k - b) l (length ps₀ - n) r m)
@@ -99,6 +98,14 @@ module _ (l : Loan) (fair : Fair l) (m₀ ps₀ : List ℕ) (k : ℕ) (r₀ : Re
       let q : b ≡ k - (j + 1) = omega (arith, h .spent) in
       (subst (λ (t : ℕ). Head m ps r t n) q h, d)
 
+  plain-beat : {m ps : List ℕ} {r : Registers} {b n : ℕ} (w : Within l m₀ ps₀ k r₀ m ps r b n) (v : Move) →
+      nextMove (r .motion) (r .base .mode) (r .base .scale) ≡ Going v →
+      let c = displaced (r .base) v in
+      length (points (c .lit)) ≤ length ps₀ - n →
+      Beaten w (whole c) m (sets ps n (points (c .lit))) (n + length (points (c .lit))) (halted (c .stop))
+  plain-beat {m} {r = r} {n = n} w v q fit =
+      record { turned = moves-turn l m (length ps₀ - n) r v q (le-leb _ _ fit); stored = refl; drawn = refl; place = refl; halt = refl }
+
   moves-made : (j : ℕ) (m ps : List ℕ) (r : Registers) (b n : ℕ) → Head m ps r b n → r .base .datastate ≡ true → k - b ≡ suc j →
       MovesCome m (sequence j r ps n)
   unfolding sequence halted
@@ -114,10 +121,9 @@ module _ (l : Loan) (fair : Fair l) (m₀ ps₀ : List ℕ) (k : ℕ) (r₀ : Re
           let p = both (plain (r .base) v) _ t in
           let c = displaced (r .base) v in
           let fit : length (points (c .lit)) ≤ length ps₀ - n = omega (arith, leb-true (n + length (points (c .lit))) (length ps) (p .1), length-drawn h) in
-          let q′ = moves-turn l m (length ps₀ - n) r v q (le-leb _ _ fit) in
           let on : halted (c .stop) ≡ Goes = ap (λ (q : Outcome). halted (q .stop)) (plainly (r .base) v (p .0)) in
           ih (sets ps n (points (c .lit))) (c .registers) (b + 1) (n + length (points (c .lit)))
-          (goes h (omega arith) fair q′ refl refl refl on)
+          (goes (plain-beat (record { far = h; some = omega arith }) v q fit) on)
           (ap (λ (q : Outcome). q .registers .base .datastate) (plainly (r .base) v (p .0)) ∙ d)
           (omega arith))
           (λ _. moves-stay (suc j) m ps r b n h d e)
@@ -138,19 +144,32 @@ module _ (l : Loan) (fair : Fair l) (m₀ ps₀ : List ℕ) (k : ℕ) (r₀ : Re
   words-stay j m ps c b n x h s e =
       let q : b ≡ k - j = omega arith in subst (λ (t : ℕ). Come m ps (record { base = c; motion = Nothing }) t n x) q h
 
+  -- a control word's beat lights nothing
+  obeyed : {m ps : List ℕ} {r : Registers} {b n : ℕ} (w : Within l m₀ ps₀ k r₀ m ps r b n) {a : Act} → turn l (length ps₀ - n) r m ≡ Does a →
+      a .lit ≡ Dark → {x : Halt} → halted (a .stop) ≡ x → Beaten w a (store (a .stores) m) ps n x
+  obeyed {ps = ps} {n = n} w q dark p =
+      record {
+        turned = q;
+        stored = refl;
+        drawn = ap (λ (t : Lit). sets ps n (points t)) (sym dark);
+        place = omega (arith, ap (λ (t : Lit). length (points t)) dark);
+        halt = sym p;
+      }
+
   -- a control word obeyed, and how the sequence goes on behind it
-  act-obeyed : (j : ℕ) (m ps : List ℕ) (c : Base) (b n : ℕ) → Head m ps (record { base = c; motion = Nothing }) b n → k - b ≡ suc j →
+  act-obeyed : (j : ℕ) (m ps : List ℕ) (c : Base) (b n : ℕ) → Within l m₀ ps₀ k r₀ m ps (record { base = c; motion = Nothing }) b n → k - b ≡ suc j →
       (a : Act) → turn l (length ps₀ - n) (record { base = c; motion = Nothing }) m ≡ Does a → a .lit ≡ Dark → a .registers .motion ≡ Nothing →
-      (Head (store (a .stores) m) ps (record { base = a .registers .base; motion = Nothing }) (b + 1) n → WordsCome ps n (obey j l (a .registers .base) (store (a .stores) m))) →
+      (Head (store (a .stores) m) ps (record { base = a .registers .base; motion = Nothing }) (b + 1) n →
+      WordsCome ps n (obey j l (a .registers .base) (store (a .stores) m))) →
       (x : Halt) → halted (a .stop) ≡ x → WordsCome ps n (follow (obey j l) j m a x)
-  act-obeyed j m ps c b n h e a q dark still ih Goes p =
+  act-obeyed j m ps c b n w e a q dark still ih Goes p =
       ih (subst (λ (t : Motion). Head (store (a .stores) m) ps (record { base = a .registers .base; motion = t }) (b + 1) n) still
-      (goes h (omega arith) fair q refl (ap (λ (t : Lit). sets ps n (points t)) (sym dark)) (omega (arith, ap (λ (t : Lit). length (points t)) dark)) p))
-  act-obeyed j m ps c b n h e a q dark still ih (Ends ending) p =
+      (goes (obeyed w q dark p) refl))
+  act-obeyed j m ps c b n w e a q dark still ih (Ends ending) p =
       words-stay j (store (a .stores) m) ps (a .registers .base) (b + 1) n (Ends ending)
       (subst (λ (t : Motion). Come (store (a .stores) m) ps (record { base = a .registers .base; motion = t }) (b + 1) n (Ends ending)) still
-      (stops h (omega arith) fair q refl (ap (λ (t : Lit). sets ps n (points t)) (sym dark)) (omega (arith, ap (λ (t : Lit). length (points t)) dark)) p))
-      (omega arith)
+      (stops (obeyed w q dark p) refl))
+      (omega (arith, w .some))
       (omega arith)
 
   words-obeyed : (j : ℕ) (m ps : List ℕ) (c : Base) (b n : ℕ) → Head m ps (record { base = c; motion = Nothing }) b n → k - b ≡ j → WordsCome ps n (obey j l c m)
@@ -164,10 +183,10 @@ module _ (l : Loan) (fair : Fair l) (m₀ ps₀ : List ℕ) (k : ℕ) (r₀ : Re
     where
       by : ((m : List ℕ) (c : Base) (b : ℕ) → Head m ps (record { base = c; motion = Nothing }) b n → k - b ≡ j → WordsCome ps n (obey j l c m)) →
           (t : Turn) → turn l (length ps₀ - n) (record { base = c; motion = Nothing }) m ≡ t → Bare t → WordsCome ps n (onTurn (obey j l) j c m t)
-      by ih (Fails why) q g = words-stay (suc j) m ps c b n (Ends (Failed why)) (fails h (omega arith) q) (h .spent) e
+      by ih (Fails why) q g = words-stay (suc j) m ps c b n (Ends (Failed why)) (fails (record { far = h; some = omega arith }) q) (h .spent) e
       by ih (Rests resting) q g = absurd g
       by ih (Does a) q g =
-          act-obeyed j m ps c b n h e a q (g .0) (g .1) (λ p. ih (store (a .stores) m) (a .registers .base) (b + 1) p (omega arith)) (halted (a .stop)) refl
+          act-obeyed j m ps c b n (record { far = h; some = omega arith }) e a q (g .0) (g .1) (λ p. ih (store (a .stores) m) (a .registers .base) (b + 1) p (omega arith)) (halted (a .stop)) refl
 
   -- BOTH
 

@@ -4,7 +4,6 @@ ghost use Prim.Native.Nat.{_+_, _≤_};
 ghost use lib.ListN.{length};
 ghost use lib.Seq.{sets};
 ghost use Rattle.registers.specs.Good.{Good};
-ghost use Rattle.loan.specs.Fair.{Fair};
 ghost use Rattle.beam.specs.DataWords.{points as pointsOf};
 ghost use Rattle.runs.specs.Ahead.{makeAhead, leaves as aheadLeaves};
 ghost use Rattle.runs.specs.Runs.{run, left, leaves};
@@ -59,7 +58,7 @@ fn make_ahead(
     place: usize,
     limit: u32,
 ) -> Ahead
-    requires { ⌜ (length (now memory) ≡ 32768) × Fair l × Good r × (place ≤ length (now points)) × (1 ≤ limit) ⌝ }
+    requires { ⌜ Good r × (place ≤ length (now points)) × (1 ≤ limit) ⌝ }
     ensures { λ a. ⌜ aheadLeaves a (now (memory .exit)) (now (points .exit)) ≡ makeAhead limit l r (now (memory .entry)) (now (points .entry)) place ⌝ }
 {
     let motion = r.motion;
@@ -105,7 +104,7 @@ fn make_ahead(
 
 // The run of an accepted call on a running display.
 pub fn run(r: Registers, l: Loan, memory: &mut [u16], points: &mut [u32], budget: u32) -> Ran
-    requires { ⌜ (length (now memory) ≡ 32768) × Fair l × Good r ⌝ }
+    requires { ⌜ Good r ⌝ }
     ensures { λ t. ⌜ leaves t (now (memory .exit)) (now (points .exit)) ≡ left (run budget l (length (now (points .entry))) r (now (memory .entry))) (now (points .entry)) ⌝ }
 {
     let mut current = r;
@@ -142,10 +141,10 @@ pub fn run(r: Registers, l: Loan, memory: &mut [u16], points: &mut [u32], budget
             }
             Turn::Rests(resting) => {
                 let registers = endings::rested(current, resting);
-                let ending = endings::rest_ending(resting);
+                let rest = endings::rest_ending(resting);
                 return Ran {
                     registers,
-                    answer: Answer::Ended(ending, beats, place),
+                    answer: Answer::Ended(rest, beats, place),
                 };
             }
             Turn::Storeless(outcome) => {
@@ -157,10 +156,10 @@ pub fn run(r: Registers, l: Loan, memory: &mut [u16], points: &mut [u32], budget
                 let halt = outcome.stop;
                 match endings::halted(halt) {
                     Halt::Goes => {}
-                    Halt::Ends(ending) => {
+                    Halt::Ends(end) => {
                         return Ran {
                             registers: current,
-                            answer: Answer::Ended(ending, beats, place),
+                            answer: Answer::Ended(end, beats, place),
                         };
                     }
                 }
@@ -176,10 +175,10 @@ pub fn run(r: Registers, l: Loan, memory: &mut [u16], points: &mut [u32], budget
                 let stop = act.stop;
                 match endings::halted(stop) {
                     Halt::Goes => {}
-                    Halt::Ends(ending) => {
+                    Halt::Ends(stopped) => {
                         return Ran {
                             registers: current,
-                            answer: Answer::Ended(ending, beats, place),
+                            answer: Answer::Ended(stopped, beats, place),
                         };
                     }
                 }

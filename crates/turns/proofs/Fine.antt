@@ -1,5 +1,5 @@
--- A turn keeps registers in range, stores inside memory, and lights a point only where there is room. The commands' own laws are in the crates below: here
--- the dispatch is looked at once, and the walk not at all. Assumes nothing.
+-- A turn keeps registers in range, and lights a point only where there is room. The commands' own laws are in the crates below: here the dispatch is looked
+-- at once, and the walk not at all. Assumes nothing.
 use Prim.Native.Nat.{ℕ, _≤_}
 use mathlib.Core.Path.{_≡_, refl}
 use mathlib.Core.Bool.{Bool, true, false, _&&_, _||_}
@@ -19,10 +19,9 @@ use Rattle.moves.specs.DataWords.{nextMove}
 use Rattle.moves.proofs.Kept.{displaced-good}
 use Rattle.drawing.proofs.Kept.{point-good, increment-good, vector-good, short-vector-good, graphplot-good}
 use Rattle.loan.specs.declared.Loan.{Loan}
-use Rattle.loan.specs.Fair.{Fair}
 use Rattle.touches.specs.declared.Act.{Act}
 use Rattle.touches.specs.Touches.{Turn, Fails, Rests, Does, walk}
-use Rattle.touches.proofs.Fine.{GoodBeat, Inside, FineWalk, walk-fine}
+use Rattle.touches.proofs.Kept.{GoodBeat, GoodTurn, walk-good}
 use Rattle.control_beats.proofs.Kept.{control-good}
 use Rattle.beam.specs.DataWords.{points}
 use Rattle.turns.specs.OneTurn.{longBeat, dataBeat, unheld, commandBeat, unusable, idleBeat, beatBy, beat, roomFor, turn}
@@ -72,7 +71,6 @@ beat-good r g = by-good r g _ refl
 
 pub record Fine (room : ℕ) (c : Act) : Type 0 where
   pub good : Good (c .registers)
-  pub inside : Inside 32768 (c .stores)
   pub fits : length (points (c .lit)) ≤ room
 
 abbrev pub FineTurn : ℕ → Turn → Type 0
@@ -80,15 +78,15 @@ FineTurn room (Fails why) = Unit {0}
 FineTurn room (Rests resting) = Unit {0}
 FineTurn room (Does c) = Fine room c
 
-room-fine : (room : ℕ) (t : Turn) → FineWalk t → FineTurn room (roomFor room t)
+room-fine : (room : ℕ) (t : Turn) → GoodTurn t → FineTurn room (roomFor room t)
 unfolding roomFor
 room-fine room (Fails why) h = tt
 room-fine room (Rests resting) h = tt
 room-fine room (Does c) h =
     pick-case (FineTurn room) (leb (length (points (c .lit))) room)
-    (λ e. record { good = h .0; inside = h .1; fits = leb-true _ _ e })
+    (λ e. record { good = h; fits = leb-true _ _ e })
     (λ _. tt)
 
-pub turn-fine : (l : Loan) → Fair l → (room : ℕ) (r : Registers) → Good r → (m : List ℕ) → FineTurn room (turn l room r m)
+pub turn-fine : (l : Loan) (room : ℕ) (r : Registers) → Good r → (m : List ℕ) → FineTurn room (turn l room r m)
 unfolding turn
-turn-fine l f room r g m = room-fine room (walk l m (beat r)) (walk-fine l f m (beat r) (beat-good r g))
+turn-fine l room r g m = room-fine room (walk l m (beat r)) (walk-good l m (beat r) (beat-good r g))

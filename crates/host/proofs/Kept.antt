@@ -11,7 +11,7 @@ use lib.Pow.{pow-mono}
 use borrow.Author.Tests.{leb-true, eqb-true}
 use Rattle.words.specs.Words.{pick}
 use Rattle.words.proofs.Laws.{pick-case}
-use Rattle.addresses.specs.Addresses.{address, pointer, addressIn}
+use Rattle.addresses.specs.Addresses.{addressAt, pointerAt, addressIn}
 use Rattle.registers.specs.declared.Base.{Base}
 use Rattle.registers.specs.declared.Motion.the-variants.{Nothing}
 use Rattle.registers.specs.declared.Registers.{Registers}
@@ -24,18 +24,12 @@ use Rattle.inputs.specs.HostOperations.{pressed, groupCleared}
 use Rattle.host.specs.declared.Operated.{Operated}
 use Rattle.host.specs.HostOperations.{known, limit, withMotion, registersAfter, done, operate, KeepsInRange}
 
--- an operand within the limit of an operation is within that of its number
-within : (operation operand k : ℕ) → eqb operation k ≡ true → operand ≤ limit operation → operand ≤ limit k
-within operation operand k e h = rw (eqb-true operation k e) at h
-
 module _ (r : Registers) (g : Good r) where
-  started-good : (operand : ℕ) → operand ≤ limit 1 → Good (withMotion (started (r .base) (address operand)) Nothing)
-  unfolding limit pick
-  started-good operand h = record { base = mode-set (address-set (g .base) (omega arith)) (omega arith); motion = tt }
+  started-good : (operand : ℕ) → Good (withMotion (started (r .base) (addressAt operand)) Nothing)
+  started-good operand = record { base = mode-set (address-set (g .base) (omega arith)) (omega arith); motion = tt }
 
-  pointed-good : (operand : ℕ) → operand ≤ limit 2 → Good (withMotion (pointed (r .base) (pointer operand)) (r .motion))
-  unfolding limit pick
-  pointed-good operand h = record { base = pointer-set (g .base) (omega arith); motion = g .motion }
+  pointed-good : (operand : ℕ) → Good (withMotion (pointed (r .base) (pointerAt operand)) (r .motion))
+  pointed-good operand = record { base = pointer-set (g .base) (omega arith); motion = g .motion }
 
   conditioned-good : (operand : ℕ) → operand ≤ limit 3 → Good (withMotion (conditioned (r .base) operand) (r .motion))
   unfolding limit pick
@@ -73,9 +67,9 @@ module _ (r : Registers) (g : Good r) where
   after-good : (operation operand : ℕ) → operand ≤ limit operation → Good (registersAfter r operation operand)
   unfolding registersAfter
   after-good o w h =
-      pick-case Good (eqb o 1) (λ e. started-good w (within o w 1 e h))
-      (λ _. pick-case Good (eqb o 2) (λ e. pointed-good w (within o w 2 e h))
-      (λ _. pick-case Good (eqb o 3) (λ e. conditioned-good w (within o w 3 e h))
+      pick-case Good (eqb o 1) (λ _. started-good w)
+      (λ _. pick-case Good (eqb o 2) (λ _. pointed-good w)
+      (λ _. pick-case Good (eqb o 3) (λ e. conditioned-good w (rw (eqb-true o 3 e) at h))
       (λ _. pick-case Good (eqb o 4) (λ _. resume-good)
       (λ _. pick-case Good (eqb o 5) (λ _. cleared-good)
       (λ _. pick-case Good (eqb o 6) (λ _. record { base = g .base; motion = g .motion })

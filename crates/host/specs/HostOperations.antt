@@ -5,7 +5,7 @@ use mathlib.Core.Bool.{Bool, true, false, _&&_, _||_}
 use mathlib.Core.Path.{_≡_}
 use lib.Dec.{eqb, leb}
 use Rattle.words.specs.Words.{pick}
-use Rattle.addresses.specs.Addresses.{address, pointer, lowBits}
+use Rattle.addresses.specs.Addresses.{addressAt, pointerAt, lowBits}
 use Rattle.registers.specs.declared.Base.{Base}
 use Rattle.registers.specs.declared.Motion.{Motion}
 use Rattle.registers.specs.declared.Motion.the-variants.{Nothing}
@@ -38,8 +38,8 @@ unfoldable pub registersAfter : Registers → ℕ → ℕ → Registers
 registersAfter r operation operand =
     let b = r .base in
     let m = r .motion in
-    pick (eqb operation 1) (withMotion (started b (address operand)) Nothing)
-    (pick (eqb operation 2) (withMotion (pointed b (pointer operand)) m)
+    pick (eqb operation 1) (withMotion (started b (addressAt operand)) Nothing)
+    (pick (eqb operation 2) (withMotion (pointed b (pointerAt operand)) m)
     (pick (eqb operation 3) (withMotion (conditioned b operand) m)
     (pick (eqb operation 4) (withMotion (resume b) m)
     (pick (eqb operation 5) (withMotion (cleared b) Nothing)

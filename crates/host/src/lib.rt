@@ -62,10 +62,10 @@ fn registers_after(r: Registers, operation: u32, operand: u16) -> Registers
     let m = r.motion;
     match operation {
         1 => with_motion(
-            operations::started(b, DisplayAddress(operand)),
+            operations::started(b, DisplayAddress::at(operand)),
             Motion::Nothing,
         ),
-        2 => with_motion(operations::pointed(b, PushdownPointer(operand)), m),
+        2 => with_motion(operations::pointed(b, PushdownPointer::at(operand)), m),
         3 => with_motion(operations::conditioned(b, operand), m),
         4 => with_motion(operations::resume(b), m),
         5 => with_motion(operations::cleared(b), Motion::Nothing),

@@ -16,8 +16,9 @@ use Rattle.endings.specs.Endings.{endingNumber}
 use Rattle.runs.specs.declared.Answer.{Answer}
 use Rattle.runs.specs.declared.Answer.the-variants.{Refused, Ended}
 use Rattle.runs.specs.declared.Ran.{Ran}
-use Rattle.calls.specs.declared.Numbers.{Numbers}
 use Rattle.runs.specs.Runs.{Run, ended, run, CallLeft, leaves, left}
+use Rattle.answers.specs.declared.Numbers.{Numbers}
+use Rattle.answers.specs.Answers.{refusedNumbers, endedNumbers}
 
 -- if not running at entry: 10
 unfoldable pub entered : ℕ → Loan → ℕ → Registers → List ℕ → Run
@@ -43,8 +44,7 @@ abbrev pub KeepsInRange : Type 0
 KeepsInRange =
     (budget : ℕ) (l : Loan) (r : Registers) (m ps : List ℕ) → inRange r ≡ true → inRange (call budget l r m ps .ran .registers) ≡ true
 
--- THIS PAPER'S NUMBERS for each answer: ending, word, beats and points. A run's word is 0
-
+-- this paper's numbers for each answer
 abbrev pub numbered : Answer → Numbers
-numbered (Refused number) = record { ending = number; word = 0; beats = 0; points = 0 }
-numbered (Ended ending beats points) = record { ending = endingNumber ending; word = 0; beats = beats; points = points }
+numbered (Refused number) = refusedNumbers number
+numbered (Ended ending beats points) = endedNumbers (endingNumber ending) beats points

@@ -4,19 +4,12 @@ ghost use lib.ListN.{length};
 ghost use Rattle.registers.specs.Good.{Good};
 ghost use Rattle.runs.specs.Runs.{left, leaves};
 ghost use Rattle.calls.specs.Calls.{refusedRun, entered, call, numbered, KeepsInRange};
+use answers::Numbers;
 use endings::Ending;
 use loan::Loan;
 use registers::Registers;
 use runs::Answer;
 use runs::Ran;
-
-// This paper's numbers for an answer. A run's word is 0.
-pub struct Numbers {
-    pub ending: u8,
-    pub word: u16,
-    pub beats: u32,
-    pub points: usize,
-}
 
 // An accepted call: a display that is not running makes no turn.
 fn enter(r: Registers, l: Loan, memory: &mut [u16], points: &mut [u32], budget: u32) -> Ran
@@ -70,18 +63,10 @@ pub fn numbered(answer: Answer) -> Numbers
     ensures { λ r. ⌜ r ≡ numbered answer ⌝ }
 {
     match answer {
-        Answer::Refused(number) => Numbers {
-            ending: number,
-            word: 0,
-            beats: 0,
-            points: 0,
-        },
-        Answer::Ended(ending, beats, points) => Numbers {
-            ending: endings::ending_number(ending),
-            word: 0,
-            beats,
-            points,
-        },
+        Answer::Refused(number) => answers::refused_numbers(number),
+        Answer::Ended(ending, beats, points) => {
+            answers::ended_numbers(endings::ending_number(ending), beats, points)
+        }
     }
 }
 

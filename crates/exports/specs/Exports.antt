@@ -12,6 +12,7 @@ use Rattle.runs.specs.declared.Answer.{Answer}
 use Rattle.runs.specs.declared.Answer.the-variants.{Refused as RefusedRun, Ended}
 use Rattle.runs.specs.Runs.{CallLeft}
 use Rattle.calls.specs.Calls.{call, numbered as answerNumbered}
+use Rattle.answers.specs.declared.Numbers.{Numbers}
 use Rattle.numbers.specs.Numbers.{registersOf, rowOf}
 
 -- the loan of its four numbers: file low, file high, list low, list high
@@ -28,8 +29,8 @@ rowAfterRun (RefusedRun number) r row = row
 rowAfterRun (Ended ending beats points) r row = rowOf r
 
 -- an answer's four numbers: ending or refusal, word, beats, points
-abbrev pub told : ℕ → ℕ → ℕ → ℕ → List ℕ
-told ending word beats points = ending ∷ word ∷ beats ∷ points ∷ []
+abbrev pub told : Numbers → List ℕ
+told n = n .ending ∷ n .word ∷ n .beats ∷ n .points ∷ []
 
 -- what an operation leaves
 pub record OperationLeft : Type 0 where
@@ -41,9 +42,7 @@ operationLeaves row answer = record { row = row; answer = answer }
 
 -- an operation's outcome on a row, as numbers
 abbrev pub operatedAs : List ℕ → Operated → OperationLeft
-operatedAs row q =
-    let n = replyNumbered (q .reply) in
-    operationLeaves (rowAfterOperation (q .reply) (q .registers) row) (told (n .ending) (n .word) (n .beats) (n .points))
+operatedAs row q = operationLeaves (rowAfterOperation (q .reply) (q .registers) row) (told (replyNumbered (q .reply)))
 
 -- the export of an operation: host's call on the registers of the row
 unfoldable pub operates : List ℕ → ℕ → ℕ → OperationLeft
@@ -62,8 +61,7 @@ runLeaves row m ps answer = record { row = row; memory = m; points = ps; answer 
 -- a run's outcome on a row, as numbers
 abbrev pub ranAs : List ℕ → CallLeft → RunLeft
 ranAs row c =
-    let n = answerNumbered (c .ran .answer) in
-    runLeaves (rowAfterRun (c .ran .answer) (c .ran .registers) row) (c .memory) (c .points) (told (n .ending) (n .word) (n .beats) (n .points))
+    runLeaves (rowAfterRun (c .ran .answer) (c .ran .registers) row) (c .memory) (c .points) (told (answerNumbered (c .ran .answer)))
 
 -- the export of a run: the whole call on the registers of the row
 unfoldable pub runs : ℕ → List ℕ → List ℕ → List ℕ → List ℕ → RunLeft

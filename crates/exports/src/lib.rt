@@ -1,14 +1,18 @@
-// The library for other languages: three calls on numbers and lists of numbers. Registers are a row of 34 numbers (crate `numbers`), an answer the four numbers
-// of document 01. Whatever arrives is refused or done: no caller has to check first.
+// The library for other languages: three calls on numbers and lists of numbers. Registers are a row of 34 numbers (crate `numbers`), an answer the four numbers of
+// document 01 (crate `answers`). Whatever arrives is refused or done: no caller has to check first.
 ghost use mathlib.Core.Path.{_≡_};
 ghost use Prim.Native.Nat.{_<_};
 ghost use Rattle.registers.specs.Registers.{fresh};
 ghost use Rattle.numbers.specs.Numbers.{rowOf};
 ghost use Rattle.exports.specs.Exports.{loanOf, rowAfterOperation, rowAfterRun, told, operationLeaves, operates, runLeaves, runs};
+use answers::Numbers;
 use host::Reply;
 use loan::Loan;
 use registers::Registers;
 use runs::Answer;
+
+// How many numbers an answer has.
+const ANSWER: usize = 4;
 
 // The loan of its four numbers: file low, file high, list low, list high.
 fn loan_of(loan: [u16; 4]) -> Loan
@@ -48,11 +52,11 @@ fn leave_run(answer: Answer, r: Registers, row: &mut [u16; 34])
 }
 
 // An answer's four numbers: ending or refusal, word, beats, points.
-fn told(ending: u8, word: u16, beats: u32, points: usize) -> [u32; 4]
-    requires { ⌜ points < 4294967296 ⌝ }
-    ensures { λ r. ⌜ r ≡ told ending word beats points ⌝ }
+fn told(n: Numbers) -> [u32; ANSWER]
+    requires { ⌜ n .points < 4294967296 ⌝ }
+    ensures { λ r. ⌜ r ≡ told n ⌝ }
 {
-    [ending as u32, word as u32, beats, points as u32]
+    [n.ending as u32, n.word as u32, n.beats, n.points as u32]
 }
 
 // Writes the row of fresh registers.
@@ -69,16 +73,16 @@ pub extern "C" fn eveglome_operate(
     registers: &mut [u16; 34],
     operation: u32,
     operand: u32,
-    answer: &mut [u32; 4],
+    answer: &mut [u32; ANSWER],
 )
     ensures { λ _. ⌜ operationLeaves (now (registers .exit)) (now (answer .exit)) ≡ operates (now (registers .entry)) operation operand ⌝ }
 {
     let operated = host::operate(numbers::registers_of(*registers), operation, operand);
     let reply = operated.reply;
     let after = operated.registers;
-    let numbers = host::numbered(reply);
+    let numbered = host::numbered(reply);
     leave_operation(reply, after, registers);
-    *answer = told(numbers.ending, numbers.word, numbers.beats, numbers.points);
+    *answer = told(numbered);
 }
 
 // Runs the display. A refused run leaves registers, memory and points as they were.
@@ -89,7 +93,7 @@ pub extern "C" fn eveglome_run(
     memory: &mut [u16],
     points: &mut [u32],
     budget: u32,
-    answer: &mut [u32; 4],
+    answer: &mut [u32; ANSWER],
 )
     ensures { λ _. ⌜ runLeaves (now (registers .exit)) (now (memory .exit)) (now (points .exit)) (now (answer .exit)) ≡ runs budget (now (loan .entry)) (now (registers .entry)) (now (memory .entry)) (now (points .entry)) ⌝ }
 {
@@ -102,7 +106,7 @@ pub extern "C" fn eveglome_run(
     );
     let ended = ran.answer;
     let after = ran.registers;
-    let numbers = calls::numbered(ended);
+    let numbered = calls::numbered(ended);
     leave_run(ended, after, registers);
-    *answer = told(numbers.ending, numbers.word, numbers.beats, numbers.points);
+    *answer = told(numbered);
 }

@@ -14,8 +14,9 @@ use Rattle.registers.specs.Registers.{inRange}
 use Rattle.status.specs.Status.{statusOne, statusTwo}
 use Rattle.operations.specs.HostOperations.{started, pointed, conditioned, resume, cleared, requested}
 use Rattle.inputs.specs.HostOperations.{penLit, pressed, groupCleared, interrupted, idled, hitsRead}
+use Rattle.answers.specs.declared.Numbers.{Numbers}
+use Rattle.answers.specs.Answers.{refusedNumbers, doneNumbers}
 use Rattle.host.specs.declared.Operated.{Operated}
-use Rattle.host.specs.declared.Numbers.{Numbers}
 use Rattle.host.specs.declared.Reply.{Reply}
 use Rattle.host.specs.declared.Reply.the-variants.{Refused, Done}
 
@@ -83,11 +84,10 @@ operate r operation operand =
     (refused r 5))
     (refused r 4)
 
--- this paper's numbers for each answer: ending, word, beats and points (01, Refused calls: a refusal has word 0, beats 0, points 0; an accepted operation
--- answers ending 0, beats 0, points 0)
+-- this paper's numbers for each reply (01, Refused calls)
 abbrev pub numbered : Reply → Numbers
-numbered (Refused number) = record { ending = number; word = 0; beats = 0; points = 0 }
-numbered (Done word) = record { ending = 0; word = word; beats = 0; points = 0 }
+numbered (Refused number) = refusedNumbers number
+numbered (Done word) = doneNumbers word
 
 -- no accepted call leaves registers that 4 refuses (01, Registers): whatever operation and operand arrive, registers in range stay in range
 abbrev pub KeepsInRange : Type 0

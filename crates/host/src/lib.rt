@@ -3,6 +3,7 @@ ghost use mathlib.Core.Path.{_≡_};
 ghost use Rattle.host.specs.HostOperations.{known, limit, withMotion, registersAfter, reading, refused, done, operate, numbered, KeepsInRange};
 use addresses::DisplayAddress;
 use addresses::PushdownPointer;
+use answers::Numbers;
 use registers::Base;
 use registers::Motion;
 use registers::Registers;
@@ -16,14 +17,6 @@ pub enum Reply {
 pub struct Operated {
     pub registers: Registers,
     pub reply: Reply,
-}
-
-// This paper's numbers for a reply. An operation makes no beat and lights no point.
-pub struct Numbers {
-    pub ending: u8,
-    pub word: u16,
-    pub beats: u32,
-    pub points: usize,
 }
 
 // Whether there is an operation of this number.
@@ -143,18 +136,8 @@ pub fn numbered(reply: Reply) -> Numbers
     ensures { λ r. ⌜ r ≡ numbered reply ⌝ }
 {
     match reply {
-        Reply::Refused(number) => Numbers {
-            ending: number,
-            word: 0,
-            beats: 0,
-            points: 0,
-        },
-        Reply::Done(word) => Numbers {
-            ending: 0,
-            word,
-            beats: 0,
-            points: 0,
-        },
+        Reply::Refused(number) => answers::refused_numbers(number),
+        Reply::Done(word) => answers::done_numbers(word),
     }
 }
 

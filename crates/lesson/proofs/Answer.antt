@@ -10,7 +10,7 @@ use Rattle.words.specs.Words.{pick}
 use Rattle.registers.specs.declared.Registers.{Registers}
 use Rattle.loan.specs.Loan.{all}
 use Rattle.runs.specs.declared.Ran.{Ran}
-use Rattle.calls.specs.declared.Numbers.{Numbers}
+use Rattle.answers.specs.declared.Numbers.{Numbers}
 use Rattle.runs.specs.Runs.{leaves}
 use Rattle.calls.specs.Calls.{call, numbered}
 use Rattle.lines.specs.Lines.{Read, read, start}

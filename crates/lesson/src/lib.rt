@@ -4,7 +4,7 @@ ghost use Prim.Native.Nat.{_≤_};
 ghost use lib.ListN.{length};
 ghost use Rattle.text.specs.Text.{filled, puts, whole};
 ghost use Rattle.lesson.specs.Lesson.{blank, room, begun, played, pointLine, pointLines, endingLine, told, badLine, practice, Enough};
-use calls::Numbers;
+use answers::Numbers;
 use loan::Loan;
 use registers::Registers;
 

@@ -10,7 +10,7 @@ use crate::input;
 use crate::input::Reader;
 use crate::lent;
 use crate::output;
-use calls::Numbers;
+use answers::Numbers;
 use loan::Loan;
 use registers::Registers;
 

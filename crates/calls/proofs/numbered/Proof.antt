@@ -8,7 +8,9 @@ numbered-spec =
     tie.close
     (tie.spec
     (λ c. search needs)
+    (λ c κs. search needs)
     (λ c. search needs)
     (λ c κs. search needs)
-    (λ c. rw (c .before .answer .given .1))
-    (λ c. rw (c .before .before .answer2 .given .1, c .ending-number .ensures)))
+    (λ c κs. search needs)
+    (λ c. rw (c .before .before .answer .given .1, c .refused-numbers .ensures))
+    (λ c. rw (c .before .before .before .answer2 .given .1, c .ended-numbers .ensures, c .before .ending-number .ensures)))

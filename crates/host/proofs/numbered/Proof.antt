@@ -8,6 +8,8 @@ numbered-spec =
     tie.close
     (tie.spec
     (λ c. search needs)
+    (λ c κs. search needs)
     (λ c. search needs)
-    (λ c. rw (c .before .reply .given .1))
-    (λ c. rw (c .before .reply2 .given .1)))
+    (λ c κs. search needs)
+    (λ c. rw (c .before .before .reply .given .1, c .refused-numbers .ensures))
+    (λ c. rw (c .before .before .reply2 .given .1, c .done-numbers .ensures)))

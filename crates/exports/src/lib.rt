@@ -1,4 +1,4 @@
-// The library for other languages: three calls on numbers and lists of numbers. Registers are a row of 34 numbers (crate `numbers`), an answer the four numbers of
+// The library for other languages: three calls on numbers and lists of numbers. Registers are a row of numbers (crate `numbers`), an answer the four numbers of
 // document 01 (crate `answers`). Whatever arrives is refused or done: no caller has to check first.
 ghost use mathlib.Core.Path.{_≡_};
 ghost use Prim.Native.Nat.{_<_};
@@ -27,7 +27,7 @@ fn loan_of(loan: [u16; 4]) -> Loan
 }
 
 // Leaves the row of an operation's registers; a refusal leaves the row as it was.
-fn leave_operation(reply: Reply, r: Registers, row: &mut [u16; 34])
+fn leave_operation(reply: Reply, r: Registers, row: &mut [u16; numbers::ROW])
     ensures { λ _. ⌜ now (row .exit) ≡ rowAfterOperation reply r (now (row .entry)) ⌝ }
 {
     match reply {
@@ -40,7 +40,7 @@ fn leave_operation(reply: Reply, r: Registers, row: &mut [u16; 34])
 
 // The same of a run. What is written depends on the answer's case alone: a test of its number here would slow the whole run down, because the compiler
 // carries it into the loop.
-fn leave_run(answer: Answer, r: Registers, row: &mut [u16; 34])
+fn leave_run(answer: Answer, r: Registers, row: &mut [u16; numbers::ROW])
     ensures { λ _. ⌜ now (row .exit) ≡ rowAfterRun answer r (now (row .entry)) ⌝ }
 {
     match answer {
@@ -61,7 +61,7 @@ fn told(n: Numbers) -> [u32; ANSWER]
 
 // Writes the row of fresh registers.
 #[no_mangle]
-pub extern "C" fn eveglome_fresh(registers: &mut [u16; 34])
+pub extern "C" fn eveglome_fresh(registers: &mut [u16; numbers::ROW])
     ensures { λ _. ⌜ now (registers .exit) ≡ rowOf fresh ⌝ }
 {
     *registers = numbers::row_of(registers::fresh());
@@ -70,7 +70,7 @@ pub extern "C" fn eveglome_fresh(registers: &mut [u16; 34])
 // Makes a host operation on the registers. A refused one leaves them as they were.
 #[no_mangle]
 pub extern "C" fn eveglome_operate(
-    registers: &mut [u16; 34],
+    registers: &mut [u16; numbers::ROW],
     operation: u32,
     operand: u32,
     answer: &mut [u32; ANSWER],
@@ -88,7 +88,7 @@ pub extern "C" fn eveglome_operate(
 // Runs the display. A refused run leaves registers, memory and points as they were.
 #[no_mangle]
 pub extern "C" fn eveglome_run(
-    registers: &mut [u16; 34],
+    registers: &mut [u16; numbers::ROW],
     loan: &[u16; 4],
     memory: &mut [u16],
     points: &mut [u32],

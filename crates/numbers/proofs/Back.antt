@@ -1,9 +1,9 @@
--- The row is a faithful form of the registers: each flag reads back from its 0 or 1, what has 8 bits loses none, and the registers of a row that does not fit
--- have a mode out of range. Assumes nothing.
+-- Registers in range come back from their row, because each flag reads back from its 0 or 1 and what has 8 bits loses none; and the registers of a row that does
+-- not fit have a mode out of range. Assumes nothing.
 use Prim.Native.Nat.{ℕ, _%_, _<_}
 use mathlib.Core.Path.{_≡_, refl, _∙_}
 use mathlib.Core.Bool.{Bool, true, false}
-use mathlib.Core.List.{List}
+use mathlib.Core.List.{List, _++_}
 use native.Mathlib.Nat.{mod-eq-of-lt}
 use native.Mathlib.Omega.{arith}
 use lib.Dec.{leb, eqb}
@@ -17,7 +17,7 @@ use Rattle.registers.specs.declared.Registers.{Registers}
 use Rattle.registers.specs.Registers.{inRange, numbersInRange, motionInRange}
 use Rattle.registers.specs.Good.{GoodBase, Good}
 use Rattle.registers.proofs.InRange.{good}
-use Rattle.numbers.specs.Numbers.{fits, narrowFit, flagsFit, motionFits, baseOf, motionOf, fitted, registersOf, motionRow, joined, rowOf, Faithful}
+use Rattle.numbers.specs.Numbers.{fits, narrowFit, flagsFit, motionFits, baseOf, motionOf, fitted, registersOf, motionRow, baseRow, rowOf}
 
 flag-back : (b : Bool) → eqb (boolByte b) 1 ≡ b
 flag-back true = refl
@@ -35,48 +35,45 @@ module _ (n : ℕ) (h : n < 256) where
   narrow-small : leb n 255 ≡ true
   narrow-small = le-leb n 255 (omega arith)
 
-flags-fit : (b : Base) (m : List ℕ) → flagsFit (joined b m) ≡ true
+flags-fit : (b : Base) (m : List ℕ) → flagsFit (baseRow b ++ m) ≡ true
 flags-fit b m = simp flag-small
 
-motion-fits : (b : Base) (m : Motion) → motionFits (joined b (motionRow m)) ≡ true
+motion-fits : (b : Base) (m : Motion) → motionFits (baseRow b ++ motionRow m) ≡ true
 unfolding motionFits motionRow pick
 motion-fits b Nothing = refl
 motion-fits b (Line l) = simp flag-small
 motion-fits b (Bytes t) = flag-small (t .right)
 
-motion-back : (b : Base) (m : Motion) → motionOf (joined b (motionRow m)) ≡ m
+motion-back : (b : Base) (m : Motion) → motionOf (baseRow b ++ motionRow m) ≡ m
 unfolding motionOf motionRow pick
 motion-back b Nothing = refl
 motion-back b (Line l) = simp flag-back
 motion-back b (Bytes t) = simp flag-back
 
 module _ (b : Base) (m : List ℕ) (g : GoodBase b) where
-  narrow-fit : narrowFit (joined b m) ≡ true
+  narrow-fit : narrowFit (baseRow b ++ m) ≡ true
   narrow-fit = simp (narrow-small (b .mode) (omega (arith, g .mode)), narrow-small (b .scale) (omega (arith, g .scale)), narrow-small (b .intensity) (omega (arith, g .intensity)))
 
-  base-back : baseOf (joined b m) ≡ b
+  base-back : baseOf (baseRow b ++ m) ≡ b
   base-back = simp (flag-back, narrow-back (b .mode) (omega (arith, g .mode)), narrow-back (b .scale) (omega (arith, g .scale)), narrow-back (b .intensity) (omega (arith, g .intensity)))
 
 row-fits : (r : Registers) → Good r → fits (rowOf r) ≡ true
 unfolding fits rowOf
 row-fits r g = rw (flags-fit (r .base) (motionRow (r .motion)), narrow-fit (r .base) (motionRow (r .motion)) (g .base), motion-fits (r .base) (r .motion))
 
-fitting : (row : List ℕ) → fits row ≡ true → registersOf row ≡ fitted row
+pub fitting : (row : List ℕ) → fits row ≡ true → registersOf row ≡ fitted row
 unfolding registersOf pick
 fitting row e = rw e
 
 same : {b d : Base} {m n : Motion} → b ≡ d → m ≡ n → _≡_ {A = Registers} (record { base = b; motion = m }) (record { base = d; motion = n })
 same p q = cc
 
-back : (r : Registers) → inRange r ≡ true → registersOf (rowOf r) ≡ r
+pub back : (r : Registers) → inRange r ≡ true → registersOf (rowOf r) ≡ r
 unfolding rowOf
 back r h =
     let g = good r h in
     fitting (rowOf r) (row-fits r g) ∙ same (base-back (r .base) (motionRow (r .motion)) (g .base)) (motion-back (r .base) (r .motion))
 
-refused : (row : List ℕ) → fits row ≡ false → inRange (registersOf row) ≡ false
+pub refused : (row : List ℕ) → fits row ≡ false → inRange (registersOf row) ≡ false
 unfolding registersOf pick inRange numbersInRange motionInRange
 refused row e = rw e
-
-pub faithful : Faithful
-faithful = record { back = back; refused = refused }

@@ -1,11 +1,11 @@
--- Registers as a row of 34 numbers: the 25 registers in the order of the replay format, the kind of motion, and the motion's own numbers. Which rows fit, the
--- registers of a row, the row of registers, and what makes the row a faithful form. Assumes nothing.
-use Prim.Native.Nat.{ℕ, _%_}
+-- Registers as a row of numbers, whose places are named in Places.antt. Which rows fit, the registers of a row, the row of registers, and what makes the row a
+-- faithful form. Assumes nothing.
+use Prim.Native.Nat.{ℕ, _+_, _-_, _%_}
 use mathlib.Core.Bool.{Bool, true, false, _&&_}
-use mathlib.Core.List.{List, [], _∷_}
+use mathlib.Core.List.{List, [], _∷_, _++_}
 use mathlib.Core.Path.{_≡_}
 use lib.Dec.{leb, eqb}
-use lib.ListN.{getD, replicate}
+use lib.ListN.{length, getD, take, replicate}
 use mir.Val.{boolByte}
 use Rattle.words.specs.Words.{pick}
 use Rattle.addresses.specs.Addresses.{address, pointer}
@@ -17,6 +17,9 @@ use Rattle.registers.specs.declared.Motion.the-variants.{Nothing, Line, Bytes}
 use Rattle.registers.specs.declared.Registers.{Registers}
 use Rattle.registers.specs.Registers.{inRange, freshBase}
 use Rattle.registers.specs.With.{withMode}
+use Rattle.numbers.specs.Places.{ROW, ADDRESS, POINTER, X, Y, STATE, MODE, SCALE, INTENSITY, PEN-ENABLE, PEN-HOLD, PEN-SENSE, BLINK, IDLE, BUTTONS, HIT-1, HIT-2, INTERNAL-STOP-FLAG, EXTERNAL-STOP-FLAG, VERTICAL-EDGE-FLAG, HORIZONTAL-EDGE-FLAG, PEN-FLAG, MANUAL-INTERRUPT-FLAG, CONDITIONS, RUNNING, STOP-REQUEST}
+use Rattle.numbers.specs.Places.{flags, narrows, lineFlags, bytesFlags}
+use Rattle.numbers.specs.Places.{KIND, LINE-MINUS-Y, LINE-MINUS-X, LINE-MAGNITUDE-Y, LINE-MAGNITUDE-X, LINE-MOVES, LINE-DONE, LINE-LIT, LINE-ESCAPE, BYTES-WORD, BYTES-SIDE, BYTES-MOVES-LEFT}
 
 -- the number at a place of a row, from 0
 abbrev pub at : List ℕ → ℕ → ℕ
@@ -32,38 +35,35 @@ on row place = eqb (at row place) 1
 abbrev pub flag : List ℕ → ℕ → Bool
 flag row place = leb (at row place) 1
 
+-- a number of 8 bits
+abbrev pub narrow : List ℕ → ℕ → Bool
+narrow row place = leb (at row place) 255
+
+-- a test at one place after another, behind what was tested before
+abbrev pub tested : (ℕ → Bool) → Bool → List ℕ → Bool
+tested test before [] = before
+tested test before (place ∷ places) = tested test (before && test place) places
+
 -- the state and the flags of the registers
 abbrev pub flagsFit : List ℕ → Bool
-flagsFit row =
-    flag row 4
-    && flag row 8
-    && flag row 9
-    && flag row 10
-    && flag row 11
-    && flag row 12
-    && flag row 14
-    && flag row 15
-    && flag row 16
-    && flag row 17
-    && flag row 18
-    && flag row 19
-    && flag row 20
-    && flag row 21
-    && flag row 23
-    && flag row 24
+flagsFit row = tested (flag row) true flags
 
--- mode, scale and intensity have 8 bits
+-- mode, scale and intensity
 abbrev pub narrowFit : List ℕ → Bool
-narrowFit row = leb (at row 5) 255 && leb (at row 6) 255 && leb (at row 7) 255
+narrowFit row = tested (narrow row) true narrows
 
 -- the two signs of a line, lit and escape
 abbrev pub lineFits : List ℕ → Bool
-lineFits row = flag row 26 && flag row 27 && flag row 32 && flag row 33
+lineFits row = tested (flag row) true lineFlags
 
--- the kind of motion is 0 nothing, 1 a line, 2 bytes; place 27 is the side of bytes
+-- the side of bytes
+abbrev pub bytesFit : List ℕ → Bool
+bytesFit row = tested (flag row) true bytesFlags
+
+-- the kind of motion is one of the three, and the flags of a motion of that kind are 0 or 1
 unfoldable pub motionFits : List ℕ → Bool
 motionFits row =
-    pick (eqb (at row 25) 0) true (pick (eqb (at row 25) 1) (lineFits row) (pick (eqb (at row 25) 2) (flag row 27) false))
+    pick (eqb (at row KIND) 0) true (pick (eqb (at row KIND) 1) (lineFits row) (pick (eqb (at row KIND) 2) (bytesFit row) false))
 
 -- the whole row
 unfoldable pub fits : List ℕ → Bool
@@ -75,54 +75,54 @@ fits row = flagsFit row && narrowFit row && motionFits row
 abbrev pub baseOf : List ℕ → Base
 baseOf row =
     record {
-      x = at row 2;
-      y = at row 3;
-      conditions = at row 22;
-      address = address (at row 0);
-      pointer = pointer (at row 1);
-      buttons = at row 13;
-      scale = at row 6 % 256;
-      intensity = at row 7 % 256;
-      mode = at row 5 % 256;
-      datastate = on row 4;
-      running = on row 23;
-      horizontal = on row 19;
-      vertical = on row 18;
-      blink = on row 11;
-      pen = on row 8;
-      hold = on row 9;
-      request = on row 24;
-      sense = on row 10;
-      idle = on row 12;
-      hit1 = on row 14;
-      hit2 = on row 15;
-      internal = on row 16;
-      external = on row 17;
-      penflag = on row 20;
-      manual = on row 21;
+      x = at row X;
+      y = at row Y;
+      conditions = at row CONDITIONS;
+      address = address (at row ADDRESS);
+      pointer = pointer (at row POINTER);
+      buttons = at row BUTTONS;
+      scale = at row SCALE % 256;
+      intensity = at row INTENSITY % 256;
+      mode = at row MODE % 256;
+      datastate = on row STATE;
+      running = on row RUNNING;
+      horizontal = on row HORIZONTAL-EDGE-FLAG;
+      vertical = on row VERTICAL-EDGE-FLAG;
+      blink = on row BLINK;
+      pen = on row PEN-ENABLE;
+      hold = on row PEN-HOLD;
+      request = on row STOP-REQUEST;
+      sense = on row PEN-SENSE;
+      idle = on row IDLE;
+      hit1 = on row HIT-1;
+      hit2 = on row HIT-2;
+      internal = on row INTERNAL-STOP-FLAG;
+      external = on row EXTERNAL-STOP-FLAG;
+      penflag = on row PEN-FLAG;
+      manual = on row MANUAL-INTERRUPT-FLAG;
     }
 
 -- a line's numbers: signs and magnitudes, y first; moves and done; lit and escape
 abbrev pub lineOf : List ℕ → LineMotion
 lineOf row =
     record {
-      magx = at row 29;
-      magy = at row 28;
-      minusx = on row 27;
-      minusy = on row 26;
-      lit = on row 32;
-      escape = on row 33;
-      moves = at row 30;
-      done = at row 31;
+      magx = at row LINE-MAGNITUDE-X;
+      magy = at row LINE-MAGNITUDE-Y;
+      minusx = on row LINE-MINUS-X;
+      minusy = on row LINE-MINUS-Y;
+      lit = on row LINE-LIT;
+      escape = on row LINE-ESCAPE;
+      moves = at row LINE-MOVES;
+      done = at row LINE-DONE;
     }
 
 -- the numbers of bytes: word, side, moves left
 abbrev pub bytesOf : List ℕ → ByteMotion
-bytesOf row = record { word = at row 26; moves = at row 28; right = on row 27 }
+bytesOf row = record { word = at row BYTES-WORD; moves = at row BYTES-MOVES-LEFT; right = on row BYTES-SIDE }
 
 -- the motion, by its kind
 unfoldable pub motionOf : List ℕ → Motion
-motionOf row = pick (eqb (at row 25) 1) (Line (lineOf row)) (pick (eqb (at row 25) 2) (Bytes (bytesOf row)) Nothing)
+motionOf row = pick (eqb (at row KIND) 1) (Line (lineOf row)) (pick (eqb (at row KIND) 2) (Bytes (bytesOf row)) Nothing)
 
 -- the registers of a row that fits
 abbrev pub fitted : List ℕ → Registers
@@ -138,9 +138,13 @@ registersOf row = pick (fits row) (fitted row) unfit
 
 -- THE ROW OF REGISTERS
 
+-- 0 on every place from one on
+abbrev pub zeros : ℕ → List ℕ
+zeros place = replicate (ROW - place) 0
+
 -- the kind, the motion's numbers, and 0 for what is left
 unfoldable pub motionRow : Motion → List ℕ
-motionRow Nothing = replicate 9 0
+motionRow Nothing = 0 ∷ zeros (KIND + 1)
 motionRow (Line l) =
     1
     ∷ boolByte (l .minusy)
@@ -151,12 +155,12 @@ motionRow (Line l) =
     ∷ l .done
     ∷ boolByte (l .lit)
     ∷ boolByte (l .escape)
-    ∷ []
-motionRow (Bytes t) = 2 ∷ t .word ∷ boolByte (t .right) ∷ t .moves ∷ replicate 5 0
+    ∷ zeros (LINE-ESCAPE + 1)
+motionRow (Bytes t) = 2 ∷ t .word ∷ boolByte (t .right) ∷ t .moves ∷ zeros (BYTES-MOVES-LEFT + 1)
 
--- a base and the nine numbers of its motion
-abbrev pub joined : Base → List ℕ → List ℕ
-joined b m =
+-- the numbers of the other registers
+abbrev pub baseRow : Base → List ℕ
+baseRow b =
     b .address .0
     ∷ b .pointer .0
     ∷ b .x
@@ -182,20 +186,19 @@ joined b m =
     ∷ b .conditions
     ∷ boolByte (b .running)
     ∷ boolByte (b .request)
-    ∷ at m 0
-    ∷ at m 1
-    ∷ at m 2
-    ∷ at m 3
-    ∷ at m 4
-    ∷ at m 5
-    ∷ at m 6
-    ∷ at m 7
-    ∷ at m 8
     ∷ []
 
 -- the whole row
 unfoldable pub rowOf : Registers → List ℕ
-rowOf r = joined (r .base) (motionRow (r .motion))
+rowOf r = baseRow (r .base) ++ motionRow (r .motion)
+
+-- how many numbers of a row a kind of motion uses: a line has eight of its own, bytes have three
+unfoldable pub used : ℕ → ℕ
+used kind = pick (eqb kind 1) (LINE-ESCAPE + 1) (pick (eqb kind 2) (BYTES-MOVES-LEFT + 1) (KIND + 1))
+
+-- a row with 0 on every place that its kind of motion does not use
+abbrev pub kept : List ℕ → List ℕ
+kept row = take (used (at row KIND)) row ++ zeros (used (at row KIND))
 
 -- THE ROW IS FAITHFUL
 
@@ -204,3 +207,5 @@ pub record Faithful : Type 0 where
   pub back : (r : Registers) → inRange r ≡ true → registersOf (rowOf r) ≡ r
   -- a row that does not fit is out of range
   pub refused : (row : List ℕ) → fits row ≡ false → inRange (registersOf row) ≡ false
+  -- a row whose registers are in range, written again from them, is the same on every place that its kind of motion uses
+  pub again : (row : List ℕ) → length row ≡ ROW → inRange (registersOf row) ≡ true → rowOf (registersOf row) ≡ kept row

@@ -1,7 +1,9 @@
-// Registers as a row of 34 numbers, for callers that have no other form: the 25 registers in the order of the replay format, the kind of motion (0 nothing,
-// 1 a line, 2 bytes), and the motion's own numbers.
+// Registers as a row of numbers, for callers that have no other form: the registers in the order of the replay format, the kind of motion, and the motion's own
+// numbers.
 ghost use mathlib.Core.Path.{_≡_};
-ghost use Rattle.numbers.specs.Numbers.{flagsFit, narrowFit, lineFits, motionFits, fits, baseOf, lineOf, bytesOf, motionOf, unfit, registersOf, motionRow, joined, rowOf, Faithful};
+ghost use mathlib.Core.List.{_++_};
+ghost use Rattle.numbers.specs.Places.{KIND};
+ghost use Rattle.numbers.specs.Numbers.{flagsFit, narrowFit, lineFits, motionFits, fits, baseOf, lineOf, bytesOf, motionOf, unfit, registersOf, zeros, baseRow, rowOf, used, Faithful};
 use addresses::DisplayAddress;
 use addresses::PushdownPointer;
 use registers::Base;
@@ -10,122 +12,206 @@ use registers::LineMotion;
 use registers::Motion;
 use registers::Registers;
 
+// How many numbers a row has.
+pub const ROW: usize = 34;
+
+// The place of each, from 0. First the registers.
+pub const ADDRESS: usize = 0;
+
+pub const POINTER: usize = 1;
+
+pub const X: usize = 2;
+
+pub const Y: usize = 3;
+
+pub const STATE: usize = 4;
+
+pub const MODE: usize = 5;
+
+pub const SCALE: usize = 6;
+
+pub const INTENSITY: usize = 7;
+
+pub const PEN_ENABLE: usize = 8;
+
+pub const PEN_HOLD: usize = 9;
+
+pub const PEN_SENSE: usize = 10;
+
+pub const BLINK: usize = 11;
+
+pub const IDLE: usize = 12;
+
+pub const BUTTONS: usize = 13;
+
+pub const HIT_1: usize = 14;
+
+pub const HIT_2: usize = 15;
+
+pub const INTERNAL_STOP_FLAG: usize = 16;
+
+pub const EXTERNAL_STOP_FLAG: usize = 17;
+
+pub const VERTICAL_EDGE_FLAG: usize = 18;
+
+pub const HORIZONTAL_EDGE_FLAG: usize = 19;
+
+pub const PEN_FLAG: usize = 20;
+
+pub const MANUAL_INTERRUPT_FLAG: usize = 21;
+
+pub const CONDITIONS: usize = 22;
+
+pub const RUNNING: usize = 23;
+
+pub const STOP_REQUEST: usize = 24;
+
+// The kind of motion: 0 nothing, 1 a line, 2 bytes.
+pub const KIND: usize = 25;
+
+// The numbers of a line.
+pub const LINE_MINUS_Y: usize = KIND + 1;
+
+pub const LINE_MINUS_X: usize = KIND + 2;
+
+pub const LINE_MAGNITUDE_Y: usize = KIND + 3;
+
+pub const LINE_MAGNITUDE_X: usize = KIND + 4;
+
+pub const LINE_MOVES: usize = KIND + 5;
+
+pub const LINE_DONE: usize = KIND + 6;
+
+pub const LINE_LIT: usize = KIND + 7;
+
+pub const LINE_ESCAPE: usize = KIND + 8;
+
+// The numbers of bytes.
+pub const BYTES_WORD: usize = KIND + 1;
+
+pub const BYTES_SIDE: usize = KIND + 2;
+
+pub const BYTES_MOVES_LEFT: usize = KIND + 3;
+
 // Whether each flag of the registers is 0 or 1.
-fn flags_fit(row: [u16; 34]) -> bool
+fn flags_fit(row: [u16; ROW]) -> bool
     ensures { λ r. ⌜ r ≡ flagsFit row ⌝ }
 {
-    (row[4] <= 1)
-        & (row[8] <= 1)
-        & (row[9] <= 1)
-        & (row[10] <= 1)
-        & (row[11] <= 1)
-        & (row[12] <= 1)
-        & (row[14] <= 1)
-        & (row[15] <= 1)
-        & (row[16] <= 1)
-        & (row[17] <= 1)
-        & (row[18] <= 1)
-        & (row[19] <= 1)
-        & (row[20] <= 1)
-        & (row[21] <= 1)
-        & (row[23] <= 1)
-        & (row[24] <= 1)
+    (row[STATE] <= 1)
+        & (row[PEN_ENABLE] <= 1)
+        & (row[PEN_HOLD] <= 1)
+        & (row[PEN_SENSE] <= 1)
+        & (row[BLINK] <= 1)
+        & (row[IDLE] <= 1)
+        & (row[HIT_1] <= 1)
+        & (row[HIT_2] <= 1)
+        & (row[INTERNAL_STOP_FLAG] <= 1)
+        & (row[EXTERNAL_STOP_FLAG] <= 1)
+        & (row[VERTICAL_EDGE_FLAG] <= 1)
+        & (row[HORIZONTAL_EDGE_FLAG] <= 1)
+        & (row[PEN_FLAG] <= 1)
+        & (row[MANUAL_INTERRUPT_FLAG] <= 1)
+        & (row[RUNNING] <= 1)
+        & (row[STOP_REQUEST] <= 1)
 }
 
 // Whether the registers of 8 bits have no more.
-fn narrow_fit(row: [u16; 34]) -> bool
+fn narrow_fit(row: [u16; ROW]) -> bool
     ensures { λ r. ⌜ r ≡ narrowFit row ⌝ }
 {
-    (row[5] <= 255) & (row[6] <= 255) & (row[7] <= 255)
+    (row[MODE] <= 255) & (row[SCALE] <= 255) & (row[INTENSITY] <= 255)
 }
 
 // Whether the flags of a line are 0 or 1.
-fn line_fits(row: [u16; 34]) -> bool
+fn line_fits(row: [u16; ROW]) -> bool
     ensures { λ r. ⌜ r ≡ lineFits row ⌝ }
 {
-    (row[26] <= 1) & (row[27] <= 1) & (row[32] <= 1) & (row[33] <= 1)
+    (row[LINE_MINUS_Y] <= 1)
+        & (row[LINE_MINUS_X] <= 1)
+        & (row[LINE_LIT] <= 1)
+        & (row[LINE_ESCAPE] <= 1)
 }
 
 // Whether the kind is one of the three, and the flags of its motion are 0 or 1.
-fn motion_fits(row: [u16; 34]) -> bool
+fn motion_fits(row: [u16; ROW]) -> bool
     ensures { λ r. ⌜ r ≡ motionFits row ⌝ }
 {
-    match row[25] {
+    match row[KIND] {
         0 => true,
         1 => line_fits(row),
-        2 => row[27] <= 1,
+        2 => row[BYTES_SIDE] <= 1,
         _ => false,
     }
 }
 
 // Whether every number of a row is one that its register can hold.
-pub fn fits(row: [u16; 34]) -> bool
+pub fn fits(row: [u16; ROW]) -> bool
     ensures { λ r. ⌜ r ≡ fits row ⌝ }
 {
     flags_fit(row) & narrow_fit(row) & motion_fits(row)
 }
 
-fn base_of(row: [u16; 34]) -> Base
+fn base_of(row: [u16; ROW]) -> Base
     ensures { λ r. ⌜ r ≡ baseOf row ⌝ }
 {
     Base {
-        address: DisplayAddress(row[0]),
-        pointer: PushdownPointer(row[1]),
-        x: row[2],
-        y: row[3],
-        datastate: row[4] == 1,
-        mode: (row[5] % 256) as u8,
-        scale: (row[6] % 256) as u8,
-        intensity: (row[7] % 256) as u8,
-        pen: row[8] == 1,
-        hold: row[9] == 1,
-        sense: row[10] == 1,
-        blink: row[11] == 1,
-        idle: row[12] == 1,
-        buttons: row[13],
-        hit1: row[14] == 1,
-        hit2: row[15] == 1,
-        internal: row[16] == 1,
-        external: row[17] == 1,
-        vertical: row[18] == 1,
-        horizontal: row[19] == 1,
-        penflag: row[20] == 1,
-        manual: row[21] == 1,
-        conditions: row[22],
-        running: row[23] == 1,
-        request: row[24] == 1,
+        address: DisplayAddress(row[ADDRESS]),
+        pointer: PushdownPointer(row[POINTER]),
+        x: row[X],
+        y: row[Y],
+        datastate: row[STATE] == 1,
+        mode: (row[MODE] % 256) as u8,
+        scale: (row[SCALE] % 256) as u8,
+        intensity: (row[INTENSITY] % 256) as u8,
+        pen: row[PEN_ENABLE] == 1,
+        hold: row[PEN_HOLD] == 1,
+        sense: row[PEN_SENSE] == 1,
+        blink: row[BLINK] == 1,
+        idle: row[IDLE] == 1,
+        buttons: row[BUTTONS],
+        hit1: row[HIT_1] == 1,
+        hit2: row[HIT_2] == 1,
+        internal: row[INTERNAL_STOP_FLAG] == 1,
+        external: row[EXTERNAL_STOP_FLAG] == 1,
+        vertical: row[VERTICAL_EDGE_FLAG] == 1,
+        horizontal: row[HORIZONTAL_EDGE_FLAG] == 1,
+        penflag: row[PEN_FLAG] == 1,
+        manual: row[MANUAL_INTERRUPT_FLAG] == 1,
+        conditions: row[CONDITIONS],
+        running: row[RUNNING] == 1,
+        request: row[STOP_REQUEST] == 1,
     }
 }
 
-fn line_of(row: [u16; 34]) -> LineMotion
+fn line_of(row: [u16; ROW]) -> LineMotion
     ensures { λ r. ⌜ r ≡ lineOf row ⌝ }
 {
     LineMotion {
-        minusy: row[26] == 1,
-        minusx: row[27] == 1,
-        magy: row[28],
-        magx: row[29],
-        moves: row[30],
-        done: row[31],
-        lit: row[32] == 1,
-        escape: row[33] == 1,
+        minusy: row[LINE_MINUS_Y] == 1,
+        minusx: row[LINE_MINUS_X] == 1,
+        magy: row[LINE_MAGNITUDE_Y],
+        magx: row[LINE_MAGNITUDE_X],
+        moves: row[LINE_MOVES],
+        done: row[LINE_DONE],
+        lit: row[LINE_LIT] == 1,
+        escape: row[LINE_ESCAPE] == 1,
     }
 }
 
-fn bytes_of(row: [u16; 34]) -> ByteMotion
+fn bytes_of(row: [u16; ROW]) -> ByteMotion
     ensures { λ r. ⌜ r ≡ bytesOf row ⌝ }
 {
     ByteMotion {
-        word: row[26],
-        right: row[27] == 1,
-        moves: row[28],
+        word: row[BYTES_WORD],
+        right: row[BYTES_SIDE] == 1,
+        moves: row[BYTES_MOVES_LEFT],
     }
 }
 
-fn motion_of(row: [u16; 34]) -> Motion
+fn motion_of(row: [u16; ROW]) -> Motion
     ensures { λ r. ⌜ r ≡ motionOf row ⌝ }
 {
-    match row[25] {
+    match row[KIND] {
         1 => Motion::Line(line_of(row)),
         2 => Motion::Bytes(bytes_of(row)),
         _ => Motion::Nothing,
@@ -145,7 +231,7 @@ fn unfit() -> Registers
 }
 
 // The registers of a row. A row that does not fit gives registers out of range, so that every call refuses it as 4, in that refusal's turn.
-pub fn registers_of(row: [u16; 34]) -> Registers
+pub fn registers_of(row: [u16; ROW]) -> Registers
     ensures { λ r. ⌜ r ≡ registersOf row ⌝ }
 {
     if fits(row) {
@@ -157,79 +243,82 @@ pub fn registers_of(row: [u16; 34]) -> Registers
     }
 }
 
-// The kind of a motion, its numbers, and 0 for what is left.
-fn motion_row(m: Motion) -> [u16; 9]
-    ensures { λ r. ⌜ r ≡ motionRow m ⌝ }
+// The row of the registers but for the motion, and of no motion.
+fn base_row(b: Base) -> [u16; ROW]
+    ensures { λ r. ⌜ r ≡ baseRow b ++ zeros KIND ⌝ }
 {
-    match m {
-        Motion::Nothing => [0; 9],
-        Motion::Line(l) => [
-            1,
-            l.minusy as u16,
-            l.minusx as u16,
-            l.magy,
-            l.magx,
-            l.moves,
-            l.done,
-            l.lit as u16,
-            l.escape as u16,
-        ],
-        Motion::Bytes(t) => [2, t.word, t.right as u16, t.moves, 0, 0, 0, 0, 0],
-    }
-}
-
-// A base and the nine numbers of its motion, in the row's order.
-fn joined(b: Base, m: [u16; 9]) -> [u16; 34]
-    ensures { λ r. ⌜ r ≡ joined b m ⌝ }
-{
-    [
-        b.address.0,
-        b.pointer.0,
-        b.x,
-        b.y,
-        b.datastate as u16,
-        b.mode as u16,
-        b.scale as u16,
-        b.intensity as u16,
-        b.pen as u16,
-        b.hold as u16,
-        b.sense as u16,
-        b.blink as u16,
-        b.idle as u16,
-        b.buttons,
-        b.hit1 as u16,
-        b.hit2 as u16,
-        b.internal as u16,
-        b.external as u16,
-        b.vertical as u16,
-        b.horizontal as u16,
-        b.penflag as u16,
-        b.manual as u16,
-        b.conditions,
-        b.running as u16,
-        b.request as u16,
-        m[0],
-        m[1],
-        m[2],
-        m[3],
-        m[4],
-        m[5],
-        m[6],
-        m[7],
-        m[8],
-    ]
+    let mut row = [0u16; ROW];
+    row[ADDRESS] = b.address.0;
+    row[POINTER] = b.pointer.0;
+    row[X] = b.x;
+    row[Y] = b.y;
+    row[STATE] = b.datastate as u16;
+    row[MODE] = b.mode as u16;
+    row[SCALE] = b.scale as u16;
+    row[INTENSITY] = b.intensity as u16;
+    row[PEN_ENABLE] = b.pen as u16;
+    row[PEN_HOLD] = b.hold as u16;
+    row[PEN_SENSE] = b.sense as u16;
+    row[BLINK] = b.blink as u16;
+    row[IDLE] = b.idle as u16;
+    row[BUTTONS] = b.buttons;
+    row[HIT_1] = b.hit1 as u16;
+    row[HIT_2] = b.hit2 as u16;
+    row[INTERNAL_STOP_FLAG] = b.internal as u16;
+    row[EXTERNAL_STOP_FLAG] = b.external as u16;
+    row[VERTICAL_EDGE_FLAG] = b.vertical as u16;
+    row[HORIZONTAL_EDGE_FLAG] = b.horizontal as u16;
+    row[PEN_FLAG] = b.penflag as u16;
+    row[MANUAL_INTERRUPT_FLAG] = b.manual as u16;
+    row[CONDITIONS] = b.conditions;
+    row[RUNNING] = b.running as u16;
+    row[STOP_REQUEST] = b.request as u16;
+    row
 }
 
 // The row of registers.
-pub fn row_of(r: Registers) -> [u16; 34]
+pub fn row_of(r: Registers) -> [u16; ROW]
     ensures { λ q. ⌜ q ≡ rowOf r ⌝ }
 {
     let b = r.base;
     let motion = r.motion;
-    joined(b, motion_row(motion))
+    let mut row = base_row(b);
+    match motion {
+        Motion::Nothing => {}
+        Motion::Line(l) => {
+            row[KIND] = 1;
+            row[LINE_MINUS_Y] = l.minusy as u16;
+            row[LINE_MINUS_X] = l.minusx as u16;
+            row[LINE_MAGNITUDE_Y] = l.magy;
+            row[LINE_MAGNITUDE_X] = l.magx;
+            row[LINE_MOVES] = l.moves;
+            row[LINE_DONE] = l.done;
+            row[LINE_LIT] = l.lit as u16;
+            row[LINE_ESCAPE] = l.escape as u16;
+        }
+        Motion::Bytes(t) => {
+            row[KIND] = 2;
+            row[BYTES_WORD] = t.word;
+            row[BYTES_SIDE] = t.right as u16;
+            row[BYTES_MOVES_LEFT] = t.moves;
+        }
+    }
+    row
 }
 
-// Registers in range come back from their row, and a row that does not fit is refused. It does nothing: its promise is the theorem, so that a check names it.
+// How many numbers of a row a kind of motion uses.
+pub fn used(kind: u16) -> usize
+    ensures { λ r. ⌜ r ≡ used kind ⌝ }
+{
+    match kind {
+        1 => LINE_ESCAPE + 1,
+        2 => BYTES_MOVES_LEFT + 1,
+        _ => KIND + 1,
+    }
+}
+
+// Registers in range come back from their row, a row that does not fit is refused, and a row whose registers are in range comes back from them. It does nothing:
+// its promise is the theorem, so that a check names it.
 pub fn faithful()
     ensures { λ _. ⌜ Faithful ⌝ }
 {}

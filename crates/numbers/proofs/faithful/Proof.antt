@@ -1,5 +1,5 @@
--- `numbers::faithful` meets its promise: the theorem is proved in Back.antt. Assumes nothing.
-use Rattle.numbers.proofs.Back.{faithful}
+-- `numbers::faithful` meets its promise: the theorem is proved in Back.antt and Again.antt. Assumes nothing.
+use Rattle.numbers.proofs.Again.{faithful}
 use Rattle.numbers.proofs.faithful.Statement.{statement}
 use Rattle.numbers.proofs.faithful.Tie as tie
 

@@ -1,14 +1,36 @@
--- `numbers::row_of` meets its promise: both parts are the callees'. Assumes nothing.
+-- `numbers::row_of` meets its promise: each arm stores the numbers of its kind at their places, over those of no motion. Assumes nothing.
 use borrow.Author.Needs.{needs}
-use Rattle.numbers.specs.Numbers.{rowOf}
+use Rattle.numbers.specs.Numbers.{motionRow, rowOf}
 use Rattle.numbers.proofs.row_of.Statement.{statement}
 use Rattle.numbers.proofs.row_of.Tie as tie
 
 pub row-of-spec : {M : Type 1} → statement M
-unfolding rowOf
+unfolding rowOf motionRow
 row-of-spec =
     tie.close
     (tie.spec
     (λ c κs. search needs)
-    (λ c κs. search needs)
-    (λ c. rw (c .joined .ensures, c .before .motion-row .ensures)))
+    (λ c. search needs)
+    (λ c. search needs)
+    (λ c. search needs)
+    (λ c. search needs)
+    (λ c. search needs)
+    (λ c. search needs)
+    (λ c. search needs)
+    (λ c. search needs)
+    (λ c. search needs)
+    (λ c. search needs)
+    (λ c. search needs)
+    (λ c. search needs)
+    (λ c. search needs)
+    (λ c. search needs)
+    (λ c. search needs)
+    (λ c. search needs)
+    (λ c. search needs)
+    (λ c. search needs)
+    (λ c. search needs)
+    (λ c. search needs)
+    (λ c. search needs)
+    (λ c. rw (c .enum-told .given .1, c .before .before .base-row .ensures))
+    (λ c. rw (c .before .before .before .before .before .motion .given .1, c .before .before .before .before .before .before .before .base-row .ensures))
+    (λ c. rw (c .before .before .motion2 .given .1, c .before .before .before .before .base-row .ensures)))

@@ -1,7 +1,10 @@
--- `replay::fields::write` is safe and ends: what is written ends within the row. Assumes nothing.
+-- `replay::fields::write` is safe and ends: no kind of motion uses more numbers than the row has. Assumes nothing.
+use Prim.Native.Nat.{_≤_}
 use borrow.Author.Needs.{needs}
 use mathlib.Core.Path.{sym}
 use lib.Seq.{length-take-le}
+use Rattle.numbers.specs.Places.{ROW}
+use Rattle.numbers.proofs.Again.{used-few}
 use Rattle.replay.proofs.fields.write.Statement.{statement}
 use Rattle.replay.proofs.fields.write.Tie as tie
 
@@ -12,7 +15,7 @@ write-spec =
     (λ c κs. search needs)
     (λ c. search needs)
     (λ c κs. search needs)
-    (λ c. search needs)
-    (λ c. sym (length-take-le _ _ (search needs)))
+    (λ c. let few : c .used .result ≤ ROW = rw (c .used .ensures) (used-few _) in search needs)
+    (λ c. let few : c .before .used .result ≤ ROW = rw (c .before .used .ensures) (used-few _) in sym (length-take-le _ _ (search needs)))
     (λ c κs. search needs)
     (λ c. search needs))

@@ -1,0 +1,19 @@
+-- `numbers::used` meets its promise: each arm is a case of the definition. Assumes nothing.
+use borrow.Author.Needs.{needs}
+use borrow.Author.Tests.{ne-eqb}
+use Rattle.words.specs.Words.{pick}
+use Rattle.numbers.specs.Numbers.{used}
+use Rattle.numbers.proofs.used.Statement.{statement}
+use Rattle.numbers.proofs.used.Tie as tie
+
+pub used-spec : {M : Type 1} → statement M
+unfolding used pick
+used-spec =
+    tie.close
+    (tie.spec
+    (λ c. search needs)
+    (λ c. search needs)
+    (λ c. search needs)
+    (λ c. rw (c .match .keys1))
+    (λ c. rw (c .match .keys2))
+    (λ c. let k = c .match .rest in rw (ne-eqb _ _ (k .0 .1), ne-eqb _ _ (k .1))))

@@ -2,7 +2,7 @@
 use mathlib.Core.Path.{refl}
 use Rattle.words.specs.Words.{pick}
 use Rattle.addresses.specs.Addresses.{addressAfter, addressIn, pointerAfter, fieldZero}
-use Rattle.paper.specs.DataWords.{distance, moved, offset, advance, sectorZero, point}
+use Rattle.paper.specs.DataWords.{distance, moved, offset, advance, travel, sectorZero, point}
 use Rattle.registers.specs.Registers.{larger, byteAt}
 use Rattle.control.specs.ControlWords.{jump, push, pushedFirst, pushedSecond}
 use Rattle.skips.specs.ControlWords.{skipping}
@@ -22,5 +22,5 @@ use Rattle.sheet.proofs.checked.Statement.{statement}
 use Rattle.sheet.proofs.checked.Tie as tie
 
 pub checked-spec : {M : Type 1} → statement M
-unfolding sheet agrees wrong sameList laid pick addressAfter addressIn pointerAfter fieldZero distance moved offset advance sectorZero point larger byteAt jump push pushedFirst pushedSecond skipping skips buttonSkip litAt arrived lineNext lineMove byteMove nextMove displaced increment vectorLine shortLine begun vector shortVector within mayFetch mayStore fetched allowed walk pushAct jumpBeat controlBeat longBeat dataBeat commandBeat unusable idleBeat roomFor turn halted run entered whyNumber endingNumber
+unfolding sheet agrees wrong sameList laid pick addressAfter addressIn pointerAfter fieldZero distance moved offset advance travel sectorZero point larger byteAt jump push pushedFirst pushedSecond skipping skips buttonSkip litAt arrived lineNext lineMove byteMove nextMove displaced increment vectorLine shortLine begun vector shortVector within mayFetch mayStore fetched allowed walk pushAct jumpBeat controlBeat longBeat dataBeat commandBeat unusable idleBeat roomFor turn halted run entered whyNumber endingNumber
 checked-spec = tie.close (tie.spec (λ c. refl))

@@ -81,7 +81,7 @@ fn reading(r: Registers, operation: u32) -> u16
     let b = r.base;
     let m = r.motion;
     match operation {
-        20 => b.pointer.0,
+        20 => b.pointer.number(),
         21 => b.x % 4096,
         22 => b.y % 4096,
         23 => b.address.low_bits(),

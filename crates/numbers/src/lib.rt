@@ -3,6 +3,7 @@
 ghost use mathlib.Core.Path.{_≡_};
 ghost use mathlib.Core.List.{_++_};
 ghost use Rattle.numbers.specs.Places.{KIND};
+ghost use Rattle.registers.specs.With.{withAddress, withPointer};
 ghost use Rattle.numbers.specs.Numbers.{flagsFit, narrowFit, lineFits, motionFits, fits, baseOf, lineOf, bytesOf, motionOf, unfit, registersOf, zeros, baseRow, rowOf, used, Faithful};
 use addresses::DisplayAddress;
 use addresses::PushdownPointer;
@@ -151,12 +152,13 @@ pub fn fits(row: [u16; ROW]) -> bool
     flags_fit(row) & narrow_fit(row) & motion_fits(row)
 }
 
-fn base_of(row: [u16; ROW]) -> Base
-    ensures { λ r. ⌜ r ≡ baseOf row ⌝ }
+// The registers other than the motion, with their two addresses.
+fn base_with(row: [u16; ROW], address: DisplayAddress, pointer: PushdownPointer) -> Base
+    ensures { λ r. ⌜ r ≡ withPointer (withAddress (baseOf row) address) pointer ⌝ }
 {
     Base {
-        address: DisplayAddress(row[ADDRESS]),
-        pointer: PushdownPointer(row[POINTER]),
+        address,
+        pointer,
         x: row[X],
         y: row[Y],
         datastate: row[STATE] == 1,
@@ -181,6 +183,16 @@ fn base_of(row: [u16; ROW]) -> Base
         running: row[RUNNING] == 1,
         request: row[STOP_REQUEST] == 1,
     }
+}
+
+fn base_of(row: [u16; ROW]) -> Base
+    ensures { λ r. ⌜ r ≡ baseOf row ⌝ }
+{
+    base_with(
+        row,
+        DisplayAddress::given(row[ADDRESS]),
+        PushdownPointer::given(row[POINTER]),
+    )
 }
 
 fn line_of(row: [u16; ROW]) -> LineMotion
@@ -248,8 +260,8 @@ fn base_row(b: Base) -> [u16; ROW]
     ensures { λ r. ⌜ r ≡ baseRow b ++ zeros KIND ⌝ }
 {
     let mut row = [0u16; ROW];
-    row[ADDRESS] = b.address.0;
-    row[POINTER] = b.pointer.0;
+    row[ADDRESS] = b.address.number();
+    row[POINTER] = b.pointer.number();
     row[X] = b.x;
     row[Y] = b.y;
     row[STATE] = b.datastate as u16;

@@ -104,8 +104,8 @@ pub fn escapes(byte: u16) -> bool
 fn numbers_in_range(b: Base) -> bool
     ensures { λ r. ⌜ r ≡ numbersInRange b ⌝ }
 {
-    (b.address.0 < 32768)
-        & (b.pointer.0 < 4096)
+    (b.address.number() < 32768)
+        & (b.pointer.number() < 4096)
         & (b.x < 8192)
         & (b.y < 8192)
         & (b.mode < 8)

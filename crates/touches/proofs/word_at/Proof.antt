@@ -10,8 +10,9 @@ pub word-at-spec : {M : Type 1} → statement M
 word-at-spec =
     tie.close
     (tie.spec
+    (λ c κs. search needs)
     (λ c. search needs)
     (λ c. search needs)
     (λ c. search needs)
-    (λ c. search needs)
-    (λ c. sym (List·getD-eq-default (now (c .before .before .args .memory)) 0 (c .if1 .left))))
+    (λ c. rw (← c .before .before .number .ensures))
+    (λ c. rw (← c .before .number .ensures) (sym (List·getD-eq-default (now (c .before .before .before .args .memory)) 0 (c .if1 .left)))))

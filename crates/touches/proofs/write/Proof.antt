@@ -9,9 +9,10 @@ pub write-spec : {M : Type 1} → statement M
 write-spec =
     tie.close
     (tie.spec
+    (λ c κs. search needs)
     (λ c. search needs)
     (λ c. search needs)
     (λ c. search needs)
     (λ c. search needs)
-    (λ c. search needs)
-    (λ c. sym (set-out _ _ _ (c .if1 .left))))
+    (λ c. rw (← c .before .number .ensures))
+    (λ c. rw (← c .before .number .ensures) (sym (set-out _ _ _ (c .if1 .left)))))

@@ -10,7 +10,7 @@ use lib.Seq.{sets}
 use native.Mathlib.Omega.{arith}
 use borrow.Author.Tests.{leb-true, le-leb}
 use Rattle.words.specs.Words.{pick}
-use Rattle.words.proofs.Laws.{pick-case}
+use Rattle.words.proofs.Laws.{pick-case, both}
 use Rattle.registers.specs.declared.Base.{Base}
 use Rattle.registers.specs.declared.Motion.{Motion}
 use Rattle.registers.specs.declared.Motion.the-variants.{Nothing, Line, Bytes}
@@ -25,7 +25,7 @@ use Rattle.beam.specs.DataWords.{points}
 use Rattle.moves.specs.DataWords.{nextMove, displaced}
 use Rattle.moves.proofs.Kept.{neither}
 use Rattle.move_sequence.specs.PlainMoves.{plain, SequenceLeft, onMove, sequence}
-use Rattle.move_sequence.proofs.Plain.{both, plainly}
+use Rattle.move_sequence.proofs.Plain.{plainly}
 use Rattle.loan.specs.declared.Loan.{Loan}
 use Rattle.touches.specs.declared.Act.{Act}
 use Rattle.touches.specs.Touches.{Turn, Fails, Rests, Does, whole, allowed, walk, store}

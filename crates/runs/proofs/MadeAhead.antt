@@ -61,7 +61,9 @@ moves-left (suc k) r ps place = by (λ r ps place. moves-left k r ps place) (nex
     by ih Still = omega arith
     by ih (Going v) =
         pick-case (λ (s : SequenceLeft). s .sequence .left ≤ suc k) _
-        (λ _. omega (arith, ih (displaced (r .base) v .registers) (sets ps place (points (displaced (r .base) v .lit))) (place + length (points (displaced (r .base) v .lit)))))
+        (λ _.
+        let c = displaced (r .base) v in
+        omega (arith, ih (c .registers) (sets ps place (points (c .lit))) (place + length (points (c .lit)))))
         (λ _. omega arith)
 
 words-left : (n : ℕ) (l : Loan) (b : Base) (m : List ℕ) → obey n l b m .obeyed .left ≤ n
@@ -186,7 +188,10 @@ module _ (l : Loan) (m₀ ps₀ : List ℕ) (k : ℕ) (r₀ : Registers) where
       by ih (Fails why) q g = words-stay (suc j) m ps c b n (Ends (Failed why)) (fails (record { far = h; some = omega arith }) q) (h .spent) e
       by ih (Rests resting) q g = absurd g
       by ih (Does a) q g =
-          act-obeyed j m ps c b n (record { far = h; some = omega arith }) e a q (g .0) (g .1) (λ p. ih (store (a .stores) m) (a .registers .base) (b + 1) p (omega arith)) (halted (a .stop)) refl
+          act-obeyed j m ps c b n (record { far = h; some = omega arith }) e a q (g .0) (g .1)
+          (λ p. ih (store (a .stores) m) (a .registers .base) (b + 1) p (omega arith))
+          (halted (a .stop))
+          refl
 
   -- BOTH
 

@@ -3,6 +3,7 @@ use Prim.Native.Nat.{ℕ}
 use mathlib.Core.Path.{_≡_, sym, ap, _∙_}
 use mathlib.Core.Bool.{Bool}
 use mathlib.Core.List.{List}
+use lib.ListN.{length}
 use borrow.Author.Needs.{needs}
 use denote.Ref.{now}
 use Rattle.words.specs.Words.{pick}
@@ -26,12 +27,15 @@ returns c =
     let ran = c .before .before .before .before in
     let test = ran .before .before .before in
     let a = test .before .before .before .args in
-    ran .run .ensures ∙ sym (ap (λ (f : Run). left f (now (a .points))) (running _ _ _ (a .r) _ (test .if1 .taken)))
+    let on = running (a .budget) (a .l) (length (now (a .points))) (a .r) (now (a .memory)) (test .if1 .taken) in
+    ran .run .ensures ∙ sym (ap (λ (f : Run). left f (now (a .points))) on)
 
 returns-2 : tie.Need-returns-2
 unfolding pick
 returns-2 c =
-    let a = c .before .before .before .args in sym (ap (λ (f : Run). left f (now (a .points))) (running _ _ _ (a .r) _ (c .if1 .left)))
+    let a = c .before .before .before .args in
+    let off = running (a .budget) (a .l) (length (now (a .points))) (a .r) (now (a .memory)) (c .if1 .left) in
+    sym (ap (λ (f : Run). left f (now (a .points))) off)
 
 pub enter-spec : {M : Type 1} → statement M
 enter-spec = tie.close (tie.spec (λ c κs. search needs) (λ c. search needs) (λ c. search needs) returns returns-2)

@@ -16,7 +16,16 @@ module _ (n : ℕ) (s t : List ℕ) (hs : n ≤ length s) (ht : n ≤ length t) 
   line-same : (at : ℕ) → at + 11 ≤ n → isLine s at ≡ isLine t at
   unfolding isLine
   line-same at h =
-      rw (le-leb (at + 11) (length s) (omega arith), le-leb (at + 11) (length t) (omega arith), octals-same at (omega arith), octals-same (at + 6) (omega arith), e (at + 4) (omega arith), e (at + 5) (omega arith), e (at + 10) (omega arith))
+      rw (
+        le-leb (at + 11) (length s) (omega arith),
+        le-leb (at + 11) (length t) (omega arith),
+        octals-same at (omega arith),
+        octals-same (at + 6)
+            (omega arith),
+        e (at + 4) (omega arith),
+        e (at + 5) (omega arith),
+        e (at + 10) (omega arith),
+      )
 
   four-same : (at : ℕ) → at + 4 ≤ n → four s at ≡ four t at
   unfolding four

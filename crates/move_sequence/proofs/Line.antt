@@ -182,7 +182,8 @@ module _ {b : Base} {l : LineMotion} {ps₀ : List ℕ} {from limit placesx plac
     tests : plain (beamAt b (upperx + lowx) (uppery + lowy)) (lineFrom b l done) ≡ not (nextx .violated || nexty .violated)
     tests =
         tested (beamAt b (upperx + lowx) (uppery + lowy)) (lineFrom b l done) there-x there-y
-        ∙ unviolated (goesOn (lineFrom b l done .motion)) (lineFrom b l done .escape && not (lineFrom b l done .continues)) (nextx .violated) (nexty .violated) (rw (line-on b l done less) (lt-ltb 0 (done + 1) (omega arith))) (quiet b l done less)
+        ∙ unviolated (goesOn (lineFrom b l done .motion)) (lineFrom b l done .escape && not (lineFrom b l done .continues)) (nextx .violated)
+        (nexty .violated) (rw (line-on b l done less) (lt-ltb 0 (done + 1) (omega arith))) (quiet b l done less)
 
     -- a move that violates is not made
     pub edge : (nextx .violated || nexty .violated) ≡ true → Shows

@@ -10,6 +10,7 @@ use lib.ListN.{length, set}
 use lib.Seq.{sets, length-sets}
 use borrow.Author.Tests.{not-true, le-leb, lt-leb}
 use Rattle.words.specs.Words.{pick}
+use Rattle.words.proofs.Laws.{both}
 use Rattle.paper.specs.declared.Reached.{Reached}
 use Rattle.registers.specs.declared.Base.{Base}
 use Rattle.registers.specs.declared.Motion.{Motion}
@@ -26,11 +27,6 @@ use Rattle.moves.specs.DataWords.{nextMove, movedX, movedY, displaced}
 use Rattle.moves.proofs.Kept.{displaced-good}
 use Rattle.move_sequence.specs.declared.Sequence.{Sequence}
 use Rattle.move_sequence.specs.PlainMoves.{goesOn, plain, leaves, stays, onMove, sequence}
-
--- both hold where the two together do
-pub both : (a c : Bool) → (a && c) ≡ true → (a ≡ true) × (c ≡ true)
-both true c h = (refl, h)
-both false c h = (h, cc)
 
 -- a coordinate that a move takes to the low bits of `end`, the upper ones kept
 abbrev pub onto : ℕ → Reached → Reached
@@ -99,7 +95,8 @@ module _ (k : ℕ) (r : Registers) (ps : List ℕ) (place : ℕ) (v : Move) (q :
     full h = stays-at (rw (p, plainly (r .base) v p) (lt-leb _ _ h))
 
     pub moves-on : place + length (points (lights (r .base) v)) ≤ length ps →
-        sequence (suc k) r ps place ≡ sequence k (at (r .base) (movedX (r .base) v .value) (movedY (r .base) v .value) (v .motion)) (sets ps place (points (lights (r .base) v))) (place + length (points (lights (r .base) v)))
+        sequence (suc k) r ps place ≡ sequence k (at (r .base) (movedX (r .base) v .value) (movedY (r .base) v .value) (v .motion))
+        (sets ps place (points (lights (r .base) v))) (place + length (points (lights (r .base) v)))
     unfolding pick
     moves-on h = onward ∙ rw (p, plainly (r .base) v p, le-leb _ _ h)
 

@@ -3,6 +3,7 @@
 ghost use mathlib.Core.Path.{_≡_};
 ghost use mathlib.Core.List.{_++_};
 ghost use Rattle.numbers.specs.Places.{KIND};
+ghost use Rattle.addresses.specs.Addresses.{address, pointer};
 ghost use Rattle.registers.specs.With.{withAddress, withPointer};
 ghost use Rattle.numbers.specs.Numbers.{flagsFit, narrowFit, lineFits, motionFits, fits, baseOf, lineOf, bytesOf, motionOf, unfit, registersOf, zeros, baseRow, rowOf, used, Faithful};
 use addresses::DisplayAddress;
@@ -255,13 +256,14 @@ pub fn registers_of(row: [u16; ROW]) -> Registers
     }
 }
 
-// The row of the registers but for the motion, and of no motion.
-fn base_row(b: Base) -> [u16; ROW]
-    ensures { λ r. ⌜ r ≡ baseRow b ++ zeros KIND ⌝ }
+// The row of the registers but for the motion, and of no motion, with the numbers of the display address and the pushdown pointer. These are read before: read
+// here, they made the compiler keep the flags packed through the whole run.
+fn base_row(b: Base, display: u16, pushdown: u16) -> [u16; ROW]
+    ensures { λ r. ⌜ r ≡ baseRow (withPointer (withAddress b (address display)) (pointer pushdown)) ++ zeros KIND ⌝ }
 {
     let mut row = [0u16; ROW];
-    row[ADDRESS] = b.address.number();
-    row[POINTER] = b.pointer.number();
+    row[ADDRESS] = display;
+    row[POINTER] = pushdown;
     row[X] = b.x;
     row[Y] = b.y;
     row[STATE] = b.datastate as u16;
@@ -294,7 +296,7 @@ pub fn row_of(r: Registers) -> [u16; ROW]
 {
     let b = r.base;
     let motion = r.motion;
-    let mut row = base_row(b);
+    let mut row = base_row(b, b.address.number(), b.pointer.number());
     match motion {
         Motion::Nothing => {}
         Motion::Line(l) => {

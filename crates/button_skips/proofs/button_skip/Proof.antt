@@ -19,4 +19,14 @@ button-skip-spec =
     (λ c κs. search needs)
     (λ c κs. search needs)
     (λ c κs. search needs)
-    (λ c. rw (c .skip-set .ensures, c .before .with-byte .ensures, c .before .before .changed .ensures, c .before .before .before .bit3 .ensures, c .before .before .before .before .bit2 .ensures, c .before .before .before .before .before .skips .ensures, c .before .before .before .before .before .before .bit .ensures, c .before .before .before .before .before .before .before .bits .ensures, c .before .before .before .before .before .before .before .before .byte-at .ensures)))
+    (λ c. rw (
+      c .skip-set .ensures,
+      c .before .with-byte .ensures,
+      c .before .before .changed .ensures,
+      c .before .before .before .bit3 .ensures,
+      c .before .before .before .before .bit2 .ensures,
+      c .before .before .before .before .before .skips .ensures,
+      c .before .before .before .before .before .before .bit .ensures,
+      c .before .before .before .before .before .before .before .bits .ensures,
+      c .before .before .before .before .before .before .before .before .byte-at .ensures,
+    )))

@@ -30,4 +30,7 @@ mode-spec =
     let clear = c .before .before .before .before .before .before .before .before .before .before .before .before .before .bit2 .ensures in
     let enter = c .before .before .before .before .before .before .before .before .before .before .before .before .bit3 .ensures in
     let number : c .before .before .before .before .before .before .before .before .before .pick-u8 .result ≡ pick (bit w 5) (bits w 6 8) (b .mode) = rw (c .before .before .before .before .before .before .before .before .before .pick-u8 .ensures, c .before .before .before .before .before .before .before .before .before .before .bits .ensures, c .before .before .before .before .before .before .before .before .before .before .before .bit4 .ensures) in
-    rw (c .mode-set .ensures) (λ i. modeSet b (c .before .before .before .before .before .before .after .ensures i) (c .before .before .before .before .before .before .before .before .coordinate .ensures i) (c .before .before .before .before .before .before .before .coordinate2 .ensures i) (number i) (b .datastate || enter i) (b .running && not (stop i)) (b .hit1 && not (clear i)) (b .hit2 && not (clear i)) (b .internal || stop i))))
+    rw (c .mode-set .ensures) (λ i. modeSet b (c .before .before .before .before .before .before .after .ensures i)
+    (c .before .before .before .before .before .before .before .before .coordinate .ensures i)
+    (c .before .before .before .before .before .before .before .coordinate2 .ensures i) (number i) (b .datastate || enter i) (b .running && not (stop i))
+    (b .hit1 && not (clear i)) (b .hit2 && not (clear i)) (b .internal || stop i))))

@@ -17,4 +17,12 @@ parameter-spec =
     (λ c κs. search needs)
     (λ c κs. search needs)
     (λ c κs. search needs)
-    (λ c. rw (c .status-set .ensures, c .before .after .ensures, c .before .before .pick-u8 .ensures, c .before .before .before .bits .ensures, c .before .before .before .before .bit .ensures, c .before .before .before .before .before .pen-by .ensures, c .before .before .before .before .before .before .scale-by .ensures)))
+    (λ c. rw (
+      c .status-set .ensures,
+      c .before .after .ensures,
+      c .before .before .pick-u8 .ensures,
+      c .before .before .before .bits .ensures,
+      c .before .before .before .before .bit .ensures,
+      c .before .before .before .before .before .pen-by .ensures,
+      c .before .before .before .before .before .before .scale-by .ensures,
+    )))

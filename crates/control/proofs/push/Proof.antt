@@ -15,4 +15,11 @@ push-spec =
     (λ c κs. search needs)
     (λ c κs. search needs)
     (λ c κs. search needs)
-    (λ c. rw (c .status-set .ensures, c .before .after .ensures, c .before .before .pen-by .ensures, c .before .before .before .scale-by .ensures, c .before .before .before .before .in-field .ensures, c .before .before .before .before .before .bits .ensures)))
+    (λ c. rw (
+      c .status-set .ensures,
+      c .before .after .ensures,
+      c .before .before .pen-by .ensures,
+      c .before .before .before .scale-by .ensures,
+      c .before .before .before .before .in-field .ensures,
+      c .before .before .before .before .before .bits .ensures,
+    )))

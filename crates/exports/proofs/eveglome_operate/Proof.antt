@@ -15,4 +15,10 @@ eveglome-operate-spec =
     (λ c κs. search needs)
     (λ c κs. search needs)
     (λ c κs. rw (c .before .before .numbered .ensures) (reply-points (c .before .before .before .before .operate .result .reply)))
-    (λ c. rw (c .told .ensures, c .before .leave-operation .ensures, c .before .before .before .numbered .ensures, c .before .before .before .before .before .operate .ensures, c .before .before .before .before .before .before .registers-of .ensures)))
+    (λ c. rw (
+      c .told .ensures,
+      c .before .leave-operation .ensures,
+      c .before .before .before .numbered .ensures,
+      c .before .before .before .before .before .operate .ensures,
+      c .before .before .before .before .before .before .registers-of .ensures,
+    )))

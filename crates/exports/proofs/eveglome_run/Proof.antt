@@ -22,4 +22,11 @@ eveglome-run-spec =
     (λ c. search needs)
     (λ c. search needs)
     (λ c. let k = c .before .before .before .before .before .before .before .before .before in
-    rw (c .told .ensures, c .before .leave-run .ensures, c .before .before .before .numbered .ensures, ← k .before .before .before .loan-of .ensures, ← k .before .before .before .before .before .registers-of .ensures) (ap (ranAs (now (k .before .before .before .before .before .before .before .before .before .args .registers))) (k .call .ensures))))
+    rw (
+      c .told .ensures,
+      c .before .leave-run .ensures,
+      c .before .before .before .numbered .ensures,
+      ← k .before .before .before .loan-of .ensures,
+      ← k .before .before .before .before .before .registers-of .ensures,
+    )
+    (ap (ranAs (now (k .before .before .before .before .before .before .before .before .before .args .registers))) (k .call .ensures))))

@@ -23,7 +23,23 @@ operate-spec =
     (λ c κs. search needs)
     (λ c κs. search needs)
     (λ c κs. search needs)
-    (λ c. rw (sym (c .before .before .before .before .before .before .in-range .ensures) ∙ c .before .before .before .before .before .if1 .taken, sym (c .before .before .before .before .known .ensures) ∙ c .before .before .before .if2 .taken, ← c .before .before .limit .ensures, le-leb _ _ (c .before .if3 .taken), c .done .ensures, mod-eq-of-lt {n = c .before .before .before .before .before .before .before .args .operand} {m = 65536} (omega (arith, limit-small (c .before .before .before .before .before .before .before .args .operation), c .before .before .limit .ensures))))
-    (λ c. rw (sym (c .before .before .before .before .before .before .in-range .ensures) ∙ c .before .before .before .before .before .if1 .taken, sym (c .before .before .before .before .known .ensures) ∙ c .before .before .before .if2 .taken, ← c .before .before .limit .ensures, lt-leb _ _ (c .before .if3 .left)) (c .refused .ensures))
+    (λ c. rw (
+      sym (c .before .before .before .before .before .before .in-range .ensures) ∙ c .before .before .before .before .before .if1 .taken,
+      sym (c .before .before .before .before .known .ensures) ∙ c .before .before .before .if2 .taken,
+      ← c .before .before .limit .ensures,
+      le-leb _ _ (c .before .if3 .taken),
+      c .done .ensures,
+      mod-eq-of-lt {n = c .before .before .before .before .before .before .before .args .operand} {m = 65536} (omega (
+        arith,
+        limit-small (c .before .before .before .before .before .before .before .args .operation),
+        c .before .before .limit .ensures,
+      )),
+    ))
+    (λ c. rw (
+      sym (c .before .before .before .before .before .before .in-range .ensures) ∙ c .before .before .before .before .before .if1 .taken,
+      sym (c .before .before .before .before .known .ensures) ∙ c .before .before .before .if2 .taken,
+      ← c .before .before .limit .ensures,
+      lt-leb _ _ (c .before .if3 .left),
+    ) (c .refused .ensures))
     (λ c. rw (sym (c .before .before .before .before .in-range .ensures) ∙ c .before .before .before .if1 .taken, sym (c .before .before .known .ensures) ∙ c .before .if2 .left) (c .refused2 .ensures))
     (λ c. rw (sym (c .before .before .in-range .ensures) ∙ c .before .if1 .left) (c .refused3 .ensures)))

@@ -22,4 +22,12 @@ reading-spec =
     (λ c. rw (c .before .match .keys5) (c .status-one .ensures))
     (λ c. rw (c .before .match .keys6) (c .status-two .ensures))
     (λ c. rw (c .match .keys7))
-    (λ c. let k = c .match .rest in rw (ne-eqb _ _ (k .0 .0 .0 .0 .0 .0 .1), ne-eqb _ _ (k .0 .0 .0 .0 .0 .1), ne-eqb _ _ (k .0 .0 .0 .0 .1), ne-eqb _ _ (k .0 .0 .0 .1), ne-eqb _ _ (k .0 .0 .1), ne-eqb _ _ (k .0 .1), ne-eqb _ _ (k .1))))
+    (λ c. let k = c .match .rest in rw (
+      ne-eqb _ _ (k .0 .0 .0 .0 .0 .0 .1),
+      ne-eqb _ _ (k .0 .0 .0 .0 .0 .1),
+      ne-eqb _ _ (k .0 .0 .0 .0 .1),
+      ne-eqb _ _ (k .0 .0 .0 .1),
+      ne-eqb _ _ (k .0 .0 .1),
+      ne-eqb _ _ (k .0 .1),
+      ne-eqb _ _ (k .1),
+    )))

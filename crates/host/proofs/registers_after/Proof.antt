@@ -52,4 +52,18 @@ registers-after-spec =
     (λ c. rw (c .before .before .match .keys11, c .with-motion11 .ensures, c .before .interrupted2 .ensures))
     (λ c. rw (c .before .before .match .keys12, c .with-motion12 .ensures, c .before .idled .ensures))
     (λ c. rw (c .before .before .match .keys13, c .with-motion13 .ensures, c .before .hits-read .ensures))
-    (λ c. let k = c .match .rest in rw (ne-eqb _ _ (k .0 .0 .0 .0 .0 .0 .0 .0 .0 .0 .0 .0 .1), ne-eqb _ _ (k .0 .0 .0 .0 .0 .0 .0 .0 .0 .0 .0 .1), ne-eqb _ _ (k .0 .0 .0 .0 .0 .0 .0 .0 .0 .0 .1), ne-eqb _ _ (k .0 .0 .0 .0 .0 .0 .0 .0 .0 .1), ne-eqb _ _ (k .0 .0 .0 .0 .0 .0 .0 .0 .1), ne-eqb _ _ (k .0 .0 .0 .0 .0 .0 .0 .1), ne-eqb _ _ (k .0 .0 .0 .0 .0 .0 .1), ne-eqb _ _ (k .0 .0 .0 .0 .0 .1), ne-eqb _ _ (k .0 .0 .0 .0 .1), ne-eqb _ _ (k .0 .0 .0 .1), ne-eqb _ _ (k .0 .0 .1), ne-eqb _ _ (k .0 .1), ne-eqb _ _ (k .1))))
+    (λ c. let k = c .match .rest in rw (
+      ne-eqb _ _ (k .0 .0 .0 .0 .0 .0 .0 .0 .0 .0 .0 .0 .1),
+      ne-eqb _ _ (k .0 .0 .0 .0 .0 .0 .0 .0 .0 .0 .0 .1),
+      ne-eqb _ _ (k .0 .0 .0 .0 .0 .0 .0 .0 .0 .0 .1),
+      ne-eqb _ _ (k .0 .0 .0 .0 .0 .0 .0 .0 .0 .1),
+      ne-eqb _ _ (k .0 .0 .0 .0 .0 .0 .0 .0 .1),
+      ne-eqb _ _ (k .0 .0 .0 .0 .0 .0 .0 .1),
+      ne-eqb _ _ (k .0 .0 .0 .0 .0 .0 .1),
+      ne-eqb _ _ (k .0 .0 .0 .0 .0 .1),
+      ne-eqb _ _ (k .0 .0 .0 .0 .1),
+      ne-eqb _ _ (k .0 .0 .0 .1),
+      ne-eqb _ _ (k .0 .0 .1),
+      ne-eqb _ _ (k .0 .1),
+      ne-eqb _ _ (k .1),
+    )))

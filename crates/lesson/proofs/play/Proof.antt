@@ -22,5 +22,8 @@ play-spec =
     let told = drawn .before .before .before in
     let ran = told .before .before in
     let begun = ran .before .before .before in
-    let called = rw (begun .before .room .ensures) at (ran .call .ensures) in
-    (rw (shown _ _ (begun .begun .ensures) called (told .numbered .ensures)) (behind _ _ _ (drawn .put-points .ensures) (c .before .before .put-ending .ensures)), short _ _ (begun .begun .ensures) called (told .numbered .ensures) (told .before .points2 .given))))
+    let called = rw (begun .before .room .ensures) at (ran .call .ensures) in (
+      rw (shown _ _ (begun .begun .ensures) called (told .numbered .ensures)) (behind _ _ _ (drawn .put-points .ensures)
+          (c .before .before .put-ending .ensures)),
+      short _ _ (begun .begun .ensures) called (told .numbered .ensures) (told .before .points2 .given),
+    )))

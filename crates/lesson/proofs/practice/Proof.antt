@@ -20,4 +20,6 @@ practice-spec =
     (λ c. omega (arith, few _ _ _ _ (c .before .read .ensures)))
     (λ c κs. omega (arith, few _ _ _ _ (c .before .before .read .ensures)))
     (λ c. rw (good _ (rw (c .before .before .before .before .before .before .before .blank .ensures) at (c .before .before .before .before .before .read .ensures)) (c .before .before .before .before .if1 .taken)) (rw (c .before .before .before .start .ensures) at (placed _ _ (c .play .ensures .1) (c .before .play-arg .given .0 .1) (c .play .ensures .0))))
-    (λ c. rw (bad _ (rw (c .before .before .before .before .before .blank .ensures) at (c .before .before .before .read .ensures)) (c .before .before .if1 .left)) (placed _ _ (omega (arith, length-bad-line (c .before .before .before .read .result + 1))) (c .before .put-bad-line-arg .given .0 .1) (c .put-bad-line .ensures))))
+    (λ c. rw (bad _ (rw (c .before .before .before .before .before .blank .ensures) at (c .before .before .before .read .ensures))
+    (c .before .before .if1 .left)) (placed _ _ (omega (arith, length-bad-line (c .before .before .before .read .result + 1)))
+    (c .before .put-bad-line-arg .given .0 .1) (c .put-bad-line .ensures))))

@@ -31,7 +31,13 @@ put-points-spec =
     (λ c κs. search needs)
     (λ c. search needs)
     (λ c. search needs)
-    (λ c. let v = c .before .before .before .before .before .before .before .loop .inv in let k = ltb-true _ _ (c .before .before .before .before .before .if1 .taken) in (omega arith, omega (arith, k), c .before .text .given ∙ v .2, lines-next _ _ _ _ (c .before .before .before .before .before .before .loop-test .taken) k (c .before .before .put-point .ensures) ∙ v .3))
+    (λ c. let v = c .before .before .before .before .before .before .before .loop .inv in
+    let k = ltb-true _ _ (c .before .before .before .before .before .if1 .taken) in (
+      omega arith,
+      omega (arith, k),
+      c .before .text .given ∙ v .2,
+      lines-next _ _ _ _ (c .before .before .before .before .before .before .loop-test .taken) k (c .before .before .put-point .ensures) ∙ v .3,
+    ))
     (λ c. c .before .before .loop .inv .2)
     (λ c. let v = c .before .before .loop .inv in lines-over _ _ _ _ (v .1) (ltb-false _ _ (c .if1 .left)) ∙ v .3)
     (λ c. c .before .loop .inv .2)

@@ -22,5 +22,10 @@ is-line-spec =
     (λ c κs. search needs)
     (λ c. search needs)
     (λ c. search needs)
-    (λ c. rw (le-leb _ _ (c .before .before .before .before .before .before .if1 .taken), c .before .octals2 .ensures, c .before .before .before .is-octal .ensures, c .before .before .before .before .before .octals .ensures))
+    (λ c. rw (
+      le-leb _ _ (c .before .before .before .before .before .before .if1 .taken),
+      c .before .octals2 .ensures,
+      c .before .before .before .is-octal .ensures,
+      c .before .before .before .before .before .octals .ensures,
+    ))
     (λ c. rw (lt-leb _ _ (c .if1 .left))))

@@ -31,6 +31,7 @@ read-spec =
     (λ c. address-small _ _ (c .before .address .ensures))
     (λ c. omega (arith, c .before .before .before .before .loop-test .taken))
     (λ c. omega (arith, c .before .before .before .before .loop-test .taken))
-    (λ c. rw (c .before .address .ensures, c .four .ensures) (next _ _ _ _ _ (c .before .before .before .before .before .loop .inv) (c .before .before .before .before .loop-test .taken) (sym (c .before .before .before .is-line .ensures) ∙ c .before .before .if1 .taken)))
+    (λ c. rw (c .before .address .ensures, c .four .ensures) (next _ _ _ _ _ (c .before .before .before .before .before .loop .inv)
+    (c .before .before .before .before .loop-test .taken) (sym (c .before .before .before .is-line .ensures) ∙ c .before .before .if1 .taken)))
     (λ c. ends _ _ _ _ _ (c .before .before .before .loop .inv) (c .before .before .loop-test .taken) (sym (c .before .is-line .ensures) ∙ c .if1 .left))
     (λ c. full _ _ _ _ _ (c .before .loop .inv) (c .loop-test .left)))

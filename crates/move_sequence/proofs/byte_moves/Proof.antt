@@ -92,13 +92,27 @@ same-length : tie.Need-same-length Inv-loop μ-loop
 same-length c = head (c .before .before .before .before .before) .loop .inv .far .size
 
 returns : tie.Need-returns Inv-loop μ-loop
-returns c = let w = c .before .before .before .before .before in stops (head w .loop .inv) (w .before .before .before .before .before .before .loop-test .taken) (w .before .before .before .before .before .byte-move .ensures) (w .before .before .before .after .given .1) (w .before .wrapped .ensures) (w .wrapped2 .ensures) (c .before .if1 .taken) _ (c .stays .ensures)
+returns c = let w = c .before .before .before .before .before in stops (head w .loop .inv)
+    (w .before .before .before .before .before .before .loop-test .taken) (w .before .before .before .before .before .byte-move .ensures)
+    (w .before .before .before .after .given .1) (w .before .wrapped .ensures) (w .wrapped2 .ensures) (c .before .if1 .taken) _ (c .stays .ensures)
 
 add-lit-at : tie.Need-add-lit-at Inv-loop μ-loop
-add-lit-at c = let w = c .before .before .before .before .before in record { fits = omega (arith, head w .loop .inv .far .good .base .x, parted-small (head w .loop .inv .axisx) _ _ (w .before .wrapped .ensures)) }
+add-lit-at c = let w = c .before .before .before .before .before in record {
+  fits = omega (
+    arith,
+    head w .loop .inv .far .good .base .x,
+    parted-small (head w .loop .inv .axisx) _ _ (w .before .wrapped .ensures),
+  );
+}
 
 add-lit-at-2 : tie.Need-add-lit-at-2 Inv-loop μ-loop
-add-lit-at-2 c = let w = c .before .before .before .before .before .before in record { fits = omega (arith, head w .loop .inv .far .good .base .y, parted-small (head w .loop .inv .axisy) _ _ (w .wrapped2 .ensures)) }
+add-lit-at-2 c = let w = c .before .before .before .before .before .before in record {
+  fits = omega (
+    arith,
+    head w .loop .inv .far .good .base .y,
+    parted-small (head w .loop .inv .axisy) _ _ (w .wrapped2 .ensures),
+  );
+}
 
 lit-at-requires : tie.Need-lit-at-requires Inv-loop μ-loop
 lit-at-requires c κs = search needs
@@ -131,7 +145,10 @@ same-length-2 : tie.Need-same-length-2 Inv-loop μ-loop
 same-length-2 c = head (tried (c .before .before .before .before .before)) .loop .inv .far .size
 
 returns-2 : tie.Need-returns-2 Inv-loop μ-loop
-returns-2 c = let lights = c .before .before .before .before .before in let w = tried lights in crammed (head w .loop .inv) (w .before .before .before .before .before .before .loop-test .taken) (w .before .before .before .before .before .byte-move .ensures) (w .before .before .before .after .given .1) (w .before .wrapped .ensures) (w .wrapped2 .ensures) (lights .before .before .before .if1 .left) (lights .lit-at .ensures) (c .before .before .before .value .given .1) (c .before .if2 .left) _ (c .stays2 .ensures)
+returns-2 c = let lights = c .before .before .before .before .before in let w = tried lights in crammed (head w .loop .inv)
+    (w .before .before .before .before .before .before .loop-test .taken) (w .before .before .before .before .before .byte-move .ensures)
+    (w .before .before .before .after .given .1) (w .before .wrapped .ensures) (w .wrapped2 .ensures) (lights .before .before .before .if1 .left)
+    (lights .lit-at .ensures) (c .before .before .before .value .given .1) (c .before .if2 .left) _ (c .stays2 .ensures)
 
 sub-left : tie.Need-sub-left Inv-loop μ-loop
 sub-left c = tried (c .before) .before .before .before .before .before .before .loop-test .taken
@@ -140,7 +157,10 @@ loop-less : tie.Need-loop-less Inv-loop μ-loop
 loop-less c = omega (arith, tried (c .before) .before .before .before .before .before .before .loop-test .taken)
 
 loop-again : tie.Need-loop-again Inv-loop μ-loop
-loop-again c = let lights = c .before in let w = tried lights in onwards (head w .loop .inv) (w .before .before .before .before .before .before .loop-test .taken) (w .before .before .before .before .before .byte-move .ensures) (w .before .before .before .after .given .1) (w .before .wrapped .ensures) (w .wrapped2 .ensures) (lights .before .before .before .if1 .left) (lights .lit-at .ensures) (⊎-elim (λ k. none (k .1 .given .1) (k .2) (k .3)) (λ k. one (k .1 .given .1) (k .3 .taken) (k .4) (k .5)) (c .match2 .came))
+loop-again c = let lights = c .before in let w = tried lights in onwards (head w .loop .inv)
+    (w .before .before .before .before .before .before .loop-test .taken) (w .before .before .before .before .before .byte-move .ensures)
+    (w .before .before .before .after .given .1) (w .before .wrapped .ensures) (w .wrapped2 .ensures) (lights .before .before .before .if1 .left)
+    (lights .lit-at .ensures) (⊎-elim (λ k. none (k .1 .given .1) (k .2) (k .3)) (λ k. one (k .1 .given .1) (k .3 .taken) (k .4) (k .5)) (c .match2 .came))
 
 add-stays-5 : tie.Need-add-stays-5 Inv-loop μ-loop
 add-stays-5 c = record { fits = omega (arith, c .before .before .before .loop .inv .far .good .base .x) }
@@ -155,7 +175,8 @@ same-length-3 : tie.Need-same-length-3 Inv-loop μ-loop
 same-length-3 c = c .before .before .before .before .loop .inv .far .size
 
 returns-3 : tie.Need-returns-3 Inv-loop μ-loop
-returns-3 c = ends (c .before .before .before .before .loop .inv) (c .before .before .before .loop-test .taken) (c .before .before .byte-move .ensures) (λ n e. ⊎-elim (λ z. let w = rw e at z in omega arith) (λ z. let w = rw e at z in omega arith) (c .before .match .keys2)) _ (c .stays3 .ensures)
+returns-3 c = ends (c .before .before .before .before .loop .inv) (c .before .before .before .loop-test .taken) (c .before .before .byte-move .ensures)
+    (λ n e. ⊎-elim (λ z. let w = rw e at z in omega arith) (λ z. let w = rw e at z in omega arith) (c .before .match .keys2)) _ (c .stays3 .ensures)
 
 add-stays-7 : tie.Need-add-stays-7 Inv-loop μ-loop
 add-stays-7 c = record { fits = omega (arith, c .before .loop .inv .far .good .base .x) }

@@ -137,7 +137,9 @@ same-length : tie.Need-same-length Inv-loop μ-loop
 same-length c = head (c .before .before .before .before .before) .loop .inv .far .size
 
 returns : tie.Need-returns Inv-loop μ-loop
-returns c = let w = c .before .before .before .before .before in edge (head w .loop .inv) (w .before .before .before .before .before .before .loop-test .taken) (w .before .before .before .pick-u8 .ensures) (w .before .before .pick-u82 .ensures) (w .before .wrapped .ensures) (w .wrapped2 .ensures) (c .before .before .if1 .taken) _ (c .stays .ensures)
+returns c = let w = c .before .before .before .before .before in edge (head w .loop .inv)
+    (w .before .before .before .before .before .before .loop-test .taken) (w .before .before .before .pick-u8 .ensures) (w .before .before .pick-u82 .ensures)
+    (w .before .wrapped .ensures) (w .wrapped2 .ensures) (c .before .before .if1 .taken) _ (c .stays .ensures)
 
 add-lit-at : tie.Need-add-lit-at Inv-loop μ-loop
 add-lit-at c = let w = c .before .before .before .before in record { fits = omega (arith, head w .loop .inv .far .good .base .x, parted-small (head w .loop .inv .axisx) _ _ (w .before .wrapped .ensures)) }
@@ -155,13 +157,27 @@ enum-known-value : tie.Need-enum-known-value Inv-loop μ-loop
 enum-known-value c = search needs
 
 mul-points : tie.Need-mul-points Inv-loop μ-loop
-mul-points c = record { fits = omega (arith, c .if2 .taken, entry (set-up (head (tried (c .before .before .before .before)))) .good .1 .1 .0 .1, head (tried (c .before .before .before .before)) .loop .inv .far .size) }
+mul-points c = record {
+  fits = omega (
+    arith,
+    c .if2 .taken,
+    entry (set-up (head (tried (c .before .before .before .before)))) .good .1 .1 .0 .1,
+    head (tried (c .before .before .before .before)) .loop .inv .far .size,
+  );
+}
 
 slice-write-points : tie.Need-slice-write-points Inv-loop μ-loop
 slice-write-points c = c .if2 .taken
 
 add-place : tie.Need-add-place Inv-loop μ-loop
-add-place c = record { fits = omega (arith, c .if2 .taken, entry (set-up (head (tried (c .before .before .before .before)))) .good .1 .1 .0 .0, head (tried (c .before .before .before .before)) .loop .inv .far .size) }
+add-place c = record {
+  fits = omega (
+    arith,
+    c .if2 .taken,
+    entry (set-up (head (tried (c .before .before .before .before)))) .good .1 .1 .0 .0,
+    head (tried (c .before .before .before .before)) .loop .inv .far .size,
+  );
+}
 
 add-stays-3 : tie.Need-add-stays-3 Inv-loop μ-loop
 add-stays-3 c = record { fits = omega (arith, head (tried (c .before .before .before .before)) .loop .inv .far .good .base .x) }
@@ -185,7 +201,10 @@ same-length-2 : tie.Need-same-length-2 Inv-loop μ-loop
 same-length-2 c = head (tried (c .before .before .before .before .before .before)) .loop .inv .far .size
 
 returns-2 : tie.Need-returns-2 Inv-loop μ-loop
-returns-2 c = let lights = c .before .before .before .before .before .before in let w = tried lights in crammed (head w .loop .inv) (w .before .before .before .before .before .before .loop-test .taken) (w .before .before .before .pick-u8 .ensures) (w .before .before .pick-u82 .ensures) (w .before .wrapped .ensures) (w .wrapped2 .ensures) (lights .before .before .before .if1 .left) (lights .lit-at .ensures) (c .before .before .before .before .value .given .1) (c .before .before .if2 .left) _ (c .stays2 .ensures)
+returns-2 c = let lights = c .before .before .before .before .before .before in let w = tried lights in crammed (head w .loop .inv)
+    (w .before .before .before .before .before .before .loop-test .taken) (w .before .before .before .pick-u8 .ensures) (w .before .before .pick-u82 .ensures)
+    (w .before .wrapped .ensures) (w .wrapped2 .ensures) (lights .before .before .before .if1 .left) (lights .lit-at .ensures)
+    (c .before .before .before .before .value .given .1) (c .before .before .if2 .left) _ (c .stays2 .ensures)
 
 left-over-requires : tie.Need-left-over-requires Inv-loop μ-loop
 left-over-requires c κs = search needs
@@ -194,13 +213,24 @@ left-over-requires-2 : tie.Need-left-over-requires-2 Inv-loop μ-loop
 left-over-requires-2 c κs = search needs
 
 add-done : tie.Need-add-done Inv-loop μ-loop
-add-done c = let a = head (tried (c .before .before .before)) .loop .inv in record { fits = omega (arith, tried (c .before .before .before) .before .before .before .before .before .before .loop-test .taken, a .bounds .short, line-bounds (a .far .good .motion .3) .2) }
+add-done c = let a = head (tried (c .before .before .before)) .loop .inv in record {
+  fits = omega (
+    arith,
+    tried (c .before .before .before) .before .before .before .before .before .before .loop-test .taken,
+    a .bounds .short,
+    line-bounds (a .far .good .motion .3) .2,
+  );
+}
 
 loop-less : tie.Need-loop-less Inv-loop μ-loop
 loop-less c = omega (arith, tried (c .before .before .before) .before .before .before .before .before .before .loop-test .taken)
 
 loop-again : tie.Need-loop-again Inv-loop μ-loop
-loop-again c = let lights = c .before .before .before in let w = tried lights in onwards (head w .loop .inv) (w .before .before .before .before .before .before .loop-test .taken) (w .before .before .before .pick-u8 .ensures) (w .before .before .pick-u82 .ensures) (w .before .wrapped .ensures) (w .wrapped2 .ensures) (lights .before .before .before .if1 .left) (lights .lit-at .ensures) (⊎-elim (λ k. none (k .1 .given .1) (k .2) (k .3)) (λ k. one (k .1 .given .1) (k .3 .taken) (k .4) (k .5)) (c .before .before .match .came)) (c .before .left-over .ensures) (c .left-over2 .ensures)
+loop-again c = let lights = c .before .before .before in let w = tried lights in onwards (head w .loop .inv)
+    (w .before .before .before .before .before .before .loop-test .taken) (w .before .before .before .pick-u8 .ensures) (w .before .before .pick-u82 .ensures)
+    (w .before .wrapped .ensures) (w .wrapped2 .ensures) (lights .before .before .before .if1 .left) (lights .lit-at .ensures)
+    (⊎-elim (λ k. none (k .1 .given .1) (k .2) (k .3)) (λ k. one (k .1 .given .1) (k .3 .taken) (k .4) (k .5)) (c .before .before .match .came))
+    (c .before .left-over .ensures) (c .left-over2 .ensures)
 
 add-stays-5 : tie.Need-add-stays-5 Inv-loop μ-loop
 add-stays-5 c = record { fits = omega (arith, c .before .loop .inv .far .good .base .x) }

@@ -10,6 +10,8 @@ row-of-spec =
     tie.close
     (tie.spec
     (λ c κs. search needs)
+    (λ c κs. search needs)
+    (λ c κs. search needs)
     (λ c. search needs)
     (λ c. search needs)
     (λ c. search needs)
@@ -31,6 +33,10 @@ row-of-spec =
     (λ c. search needs)
     (λ c. search needs)
     (λ c. search needs)
-    (λ c. rw (c .enum-told .given .1, c .before .before .base-row .ensures))
-    (λ c. rw (c .before .before .before .before .before .motion .given .1, c .before .before .before .before .before .before .before .base-row .ensures))
-    (λ c. rw (c .before .before .motion2 .given .1, c .before .before .before .before .base-row .ensures)))
+    (λ c. let base = c .before .before in rw (c .enum-told .given .1, base .base-row .ensures, base .before .number2 .ensures, base .before .before .number .ensures))
+    (λ c. let kind = c .before .before .before .before .before in
+    let base = kind .before .before in
+    rw (kind .motion .given .1, base .base-row .ensures, base .before .number2 .ensures, base .before .before .number .ensures))
+    (λ c. let kind = c .before .before in
+    let base = kind .before .before in
+    rw (kind .motion2 .given .1, base .base-row .ensures, base .before .number2 .ensures, base .before .before .number .ensures)))

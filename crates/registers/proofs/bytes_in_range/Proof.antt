@@ -13,4 +13,9 @@ bytes-in-range-spec =
     (λ c κs. search needs)
     (λ c κs. search needs)
     (λ c κs. search needs)
-    (λ c. rw (c .before .before .before .before .escapes .ensures, c .before .before .before .before .before .byte-at2 .ensures, c .before .before .before .before .before .before .moves-asked .ensures, c .before .before .before .before .before .before .before .byte-at .ensures)))
+    (λ c. rw (
+      c .before .before .before .before .escapes .ensures,
+      c .before .before .before .before .before .byte-at2 .ensures,
+      c .before .before .before .before .before .before .moves-asked .ensures,
+      c .before .before .before .before .before .before .before .byte-at .ensures,
+    )))

@@ -19,4 +19,15 @@ count-spec =
     (λ c κs. search needs)
     (λ c κs. search needs)
     (λ c κs. search needs)
-    (λ c. rw (c .count-set .ensures, c .before .before .after .ensures, c .before .before .before .bit6 .ensures, c .before .before .before .before .bit5 .ensures, c .before .before .before .before .before .counted2 .ensures, c .before .before .before .before .before .before .bit4 .ensures, c .before .before .before .before .before .before .before .bit3 .ensures, c .before .before .before .before .before .before .before .before .counted .ensures, c .before .before .before .before .before .before .before .before .before .bit2 .ensures, c .before .before .before .before .before .before .before .before .before .before .bit .ensures)))
+    (λ c. rw (
+      c .count-set .ensures,
+      c .before .before .after .ensures,
+      c .before .before .before .bit6 .ensures,
+      c .before .before .before .before .bit5 .ensures,
+      c .before .before .before .before .before .counted2 .ensures,
+      c .before .before .before .before .before .before .bit4 .ensures,
+      c .before .before .before .before .before .before .before .bit3 .ensures,
+      c .before .before .before .before .before .before .before .before .counted .ensures,
+      c .before .before .before .before .before .before .before .before .before .bit2 .ensures,
+      c .before .before .before .before .before .before .before .before .before .before .bit .ensures,
+    )))

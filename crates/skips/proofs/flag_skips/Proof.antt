@@ -15,4 +15,11 @@ flag-skips-spec =
     (λ c κs. search needs)
     (λ c κs. search needs)
     (λ c κs. search needs)
-    (λ c. rw (c .bit5 .ensures, c .before .before .bit4 .ensures, c .before .before .before .before .bit3 .ensures, c .before .before .before .before .before .before .bit2 .ensures, c .before .before .before .before .before .before .before .bit .ensures, c .before .before .before .before .before .before .before .before .sector-zero .ensures)))
+    (λ c. rw (
+      c .bit5 .ensures,
+      c .before .before .bit4 .ensures,
+      c .before .before .before .before .bit3 .ensures,
+      c .before .before .before .before .before .before .bit2 .ensures,
+      c .before .before .before .before .before .before .before .bit .ensures,
+      c .before .before .before .before .before .before .before .before .sector-zero .ensures,
+    )))

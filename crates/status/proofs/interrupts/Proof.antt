@@ -13,4 +13,9 @@ interrupts-spec =
     (λ c κs. search needs)
     (λ c κs. search needs)
     (λ c κs. search needs)
-    (λ c. rw (c .before .before .before .before .before .bit4 .ensures, c .before .before .before .before .before .before .bit3 .ensures, c .before .before .before .before .before .before .before .bit2 .ensures, c .before .before .before .before .before .before .before .before .bit .ensures)))
+    (λ c. rw (
+      c .before .before .before .before .before .bit4 .ensures,
+      c .before .before .before .before .before .before .bit3 .ensures,
+      c .before .before .before .before .before .before .before .bit2 .ensures,
+      c .before .before .before .before .before .before .before .before .bit .ensures,
+    )))

@@ -27,6 +27,10 @@ put-all-spec =
     (λ c κs. search needs)
     (λ c. search needs)
     (λ c. search needs)
-    (λ c. let v = c .before .before .before .before .before .before .loop .inv in (omega arith, (c .before .text .given ∙ v .1), puts-next _ _ _ (c .before .before .before .before .before .loop-test .taken) (c .before .before .put .ensures) ∙ v .2))
+    (λ c. let v = c .before .before .before .before .before .before .loop .inv in (
+      omega arith,
+      (c .before .text .given ∙ v .1),
+      puts-next _ _ _ (c .before .before .before .before .before .loop-test .taken) (c .before .before .put .ensures) ∙ v .2,
+    ))
     (λ c. c .before .loop .inv .1)
     (λ c. let v = c .before .loop .inv in puts-last _ _ _ (v .0) (c .loop-test .left) ∙ v .2))

@@ -15,4 +15,5 @@ command-beat-spec =
     (tie.spec
     (λ c κs. search needs)
     (λ c κs. search needs)
-    (λ c. let a = c .before .before .before .args in c .data-beat .ensures ∙ sym (ap (roomFor (a .room)) (walk-command (a .l) (now (a .memory)) (a .b) (a .word) (c .before .unheld .ensures) (c .before .before .before .pre)))))
+    (λ c. let a = c .before .before .before .args in c .data-beat .ensures ∙ sym (ap (roomFor (a .room)) (walk-command (a .l) (now (a .memory)) (a .b)
+    (a .word) (c .before .unheld .ensures) (c .before .before .before .pre)))))

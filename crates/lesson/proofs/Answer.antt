@@ -16,8 +16,9 @@ use Rattle.calls.specs.Calls.{call, numbered}
 use Rattle.lines.specs.Lines.{Read, read, start}
 use Rattle.text.specs.Text.{Filled, filled, puts, whole}
 use Rattle.text.proofs.Puts.{puts-whole}
-use Rattle.lesson.specs.Lesson.{blank, room, begun, played, pointLines, endingLine, told, badLine, answered, practice}
-use Rattle.lesson.proofs.Writing.{length-point-lines, length-ending-line}
+use Rattle.printout.specs.Printout.{pointLines, endingLine, badLine}
+use Rattle.lesson.specs.Lesson.{blank, room, begun, played, told, answered, practice}
+use Rattle.printout.proofs.Writing.{length-point-lines, length-ending-line}
 
 -- good input and bad
 module _ (s : List ℕ) {r : Read} (e : r ≡ read 4096 s 0 blank) where

@@ -1,8 +1,8 @@
 -- Section 'A practice program' of 01: the bytes that it writes for the bytes that it reads. Assumes nothing.
-use Prim.Native.Nat.{ℕ, zero, suc, _+_, _*_}
+use Prim.Native.Nat.{ℕ, _+_, _*_}
 use mathlib.Core.Path.{_≡_}
 use mathlib.Core.Bool.{_&&_}
-use mathlib.Core.List.{List, [], _∷_, _++_}
+use mathlib.Core.List.{List, _++_}
 use lib.Dec.{leb, eqb}
 use lib.ListN.{length, take, replicate}
 use Rattle.words.specs.Words.{pick}
@@ -13,8 +13,7 @@ use Rattle.loan.specs.Loan.{all}
 use Rattle.runs.specs.Runs.{CallLeft}
 use Rattle.calls.specs.Calls.{call, numbered}
 use Rattle.lines.specs.Lines.{Read, read, start}
-use Rattle.text.specs.Text.{decimal, number}
-use Rattle.points.specs.Points.{pointX, pointY, pointIntensity, pointBlink}
+use Rattle.printout.specs.Printout.{pointLines, endingLine, badLine}
 
 -- THE RUN
 
@@ -36,30 +35,11 @@ played a m = call 65535 all (begun a) m room
 
 -- WHAT IS WRITTEN
 
--- x, y, intensity, blink
-unfoldable pub pointLine : ℕ → List ℕ
-pointLine p =
-    number (pointX p) 32 ++ number (pointY p) 32 ++ number (pointIntensity p) 32 ++ number (pointBlink p) 10
-
--- a line for each of the first n points
-unfoldable pub pointLines : ℕ → List ℕ → List ℕ
-pointLines zero ps = []
-pointLines (suc n) [] = []
-pointLines (suc n) (p ∷ ps) = pointLine p ++ pointLines n ps
-
--- "ending E beats B"
-unfoldable pub endingLine : ℕ → ℕ → List ℕ
-endingLine ending beats =
-    (101 ∷ 110 ∷ 100 ∷ 105 ∷ 110 ∷ 103 ∷ 32 ∷ []) ++ decimal ending ++ (32 ∷ 98 ∷ 101 ∷ 97 ∷ 116 ∷ 115 ∷ 32 ∷ []) ++ number beats 10
-
+-- the points that were lit, then how the run ended
 unfoldable pub told : CallLeft → List ℕ
 told t =
     let numbers = numbered (t .ran .answer) in
     pointLines (numbers .points) (t .points) ++ endingLine (numbers .ending) (numbers .beats)
-
--- "bad line N"
-unfoldable pub badLine : ℕ → List ℕ
-badLine n = (98 ∷ 97 ∷ 100 ∷ 32 ∷ 108 ∷ 105 ∷ 110 ∷ 101 ∷ 32 ∷ []) ++ number n 10
 
 -- good input is lines and nothing else, 1 to 4,096 of them; the display starts at the first line's address. Else the first line that is none, or too many,
 -- is the one behind the lines read

@@ -3,8 +3,7 @@ ghost use mathlib.Core.Path.{_≡_};
 ghost use Prim.Native.Nat.{_≤_};
 ghost use lib.ListN.{length};
 ghost use Rattle.text.specs.Text.{filled, puts, whole};
-ghost use Rattle.lesson.specs.Lesson.{blank, room, begun, played, pointLine, pointLines, endingLine, told, badLine, practice, Enough};
-use answers::Numbers;
+ghost use Rattle.lesson.specs.Lesson.{blank, room, begun, played, told, practice, Enough};
 use loan::Loan;
 use registers::Registers;
 
@@ -28,36 +27,6 @@ fn begun(address: u16) -> Registers
     host::operate(registers::fresh(), 1, address as u32).registers
 }
 
-fn put_point(point: u32, text: &mut [u8], place: usize) -> usize
-    ensures { λ r. ⌜ filled r (now (text .exit)) ≡ puts (pointLine point) (filled place (now (text .entry))) ⌝ }
-{
-    let x = text::put_number(points::point_x(point), b' ', text, place);
-    let y = text::put_number(points::point_y(point), b' ', text, x);
-    let intensity = text::put_number(points::point_intensity(point), b' ', text, y);
-    text::put_number(points::point_blink(point), b'\n', text, intensity)
-}
-
-fn put_points(points: &[u32], count: usize, text: &mut [u8], place: usize) -> usize
-    ensures { λ r. ⌜ filled r (now (text .exit)) ≡ puts (pointLines count (now (points .entry))) (filled place (now (text .entry))) ⌝ }
-{
-    let mut at = place;
-    let mut i = 0;
-    while i < count && i < points.len() {
-        at = put_point(points[i], text, at);
-        i += 1;
-    }
-    at
-}
-
-fn put_ending(told: Numbers, text: &mut [u8], place: usize) -> usize
-    ensures { λ r. ⌜ filled r (now (text .exit)) ≡ puts (endingLine (told .ending) (told .beats)) (filled place (now (text .entry))) ⌝ }
-{
-    let named = text::put_all(b"ending ", text, place);
-    let ended = text::put_decimal(told.ending as u32, text, named);
-    let counted = text::put_all(b" beats ", text, ended);
-    text::put_number(told.beats, b'\n', text, counted)
-}
-
 // Runs the memory from an address, and writes what the display lit and how it ended.
 fn play(address: u16, memory: &mut [u16; 32768], text: &mut [u8], place: usize) -> usize
     ensures { λ r. ⌜ filled r (now (text .exit)) ≡ puts (told (played address (now (memory .entry)))) (filled place (now (text .entry))) ⌝ }
@@ -73,16 +42,8 @@ fn play(address: u16, memory: &mut [u16; 32768], text: &mut [u8], place: usize) 
     let ran = calls::call(begun(address), all, memory, &mut points, 65535);
     let answer = ran.answer;
     let told = calls::numbered(answer);
-    let drawn = put_points(&points, told.points, text, place);
-    put_ending(told, text, drawn)
-}
-
-fn put_bad_line(number: usize, text: &mut [u8], place: usize) -> usize
-    requires { ⌜ number ≤ 4097 ⌝ }
-    ensures { λ r. ⌜ filled r (now (text .exit)) ≡ puts (badLine number) (filled place (now (text .entry))) ⌝ }
-{
-    let named = text::put_all(b"bad line ", text, place);
-    text::put_number(number as u32, b'\n', text, named)
+    let drawn = printout::put_points(&points, told.points, text, place);
+    printout::put_ending(told.ending, told.beats, text, drawn)
 }
 
 // What the practice program writes for what it reads, at the start of a list that has room for the longest answer: 1,024 points of at most 24 bytes
@@ -95,7 +56,7 @@ pub fn practice(input: &[u8], text: &mut [u8; 24601]) -> usize
     if (1 <= count) & (lines::LINE * count == input.len()) {
         play(lines::start(input), &mut memory, text, 0)
     } else {
-        put_bad_line(count + 1, text, 0)
+        printout::put_bad_line((count + 1) as u32, text, 0)
     }
 }
 

@@ -1,9 +1,16 @@
 -- Text as a list of bytes, what it is to put it into a lent list, and a number in decimal. Assumes nothing.
 use Prim.Native.Nat.{ℕ, _+_, _/_, _%_}
+use Prim.Native.Char.{code}
+use Prim.Native.String.{String, [] as none, _∷_ as joined}
 use mathlib.Core.List.{List, [], _∷_, _++_}
 use lib.Dec.{leb, ltb}
 use lib.ListN.{length, set, drop}
 use Rattle.words.specs.Words.{pick}
+
+-- a quoted text: each character's byte
+unfoldable pub bytes : String → List ℕ
+bytes none = []
+bytes (joined c cs) = code c ∷ bytes cs
 
 -- a lent list, and how far it is filled
 pub record Filled : Type 0 where

@@ -1,13 +1,13 @@
--- `lesson::put_point` meets its promise: its numbers are put one behind the other. Assumes nothing.
+-- `printout::put_point` meets its promise: its numbers are put one behind the other. Assumes nothing.
 use Prim.Native.Nat.{ℕ}
 use mathlib.Core.Path.{_≡_}
 use Rattle.text.specs.Text.{Filled, puts, number}
 use Rattle.text.proofs.Puts.{behind}
 use Rattle.points.specs.Points.{pointX, pointY, pointIntensity, pointBlink}
-use Rattle.lesson.specs.Lesson.{pointLine}
+use Rattle.printout.specs.Printout.{pointLine}
 use borrow.Author.Needs.{needs}
-use Rattle.lesson.proofs.put_point.Statement.{statement}
-use Rattle.lesson.proofs.put_point.Tie as tie
+use Rattle.printout.proofs.put_point.Statement.{statement}
+use Rattle.printout.proofs.put_point.Tie as tie
 
 -- number behind number
 by : (p : ℕ) (f : Filled) {x y intensity blink : ℕ} {g₁ g₂ g₃ g₄ : Filled} → g₁ ≡ puts (number x 32) f → x ≡ pointX p → g₂ ≡ puts (number y 32) g₁ →

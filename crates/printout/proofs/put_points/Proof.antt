@@ -1,4 +1,4 @@
--- `lesson::put_points` meets its promise: at the loop's head the lines of the points that are left, put behind what was put, are all lines put (Writing.antt). Assumes nothing.
+-- `printout::put_points` meets its promise: at the loop's head the lines of the points that are left, put behind what was put, are all lines put (Writing.antt). Assumes nothing.
 use Prim.Native.Nat.{_-_, _≤_}
 use mathlib.Core.Path.{_≡_, refl, _∙_}
 use native.Mathlib.Nat.{sub-zero}
@@ -6,11 +6,11 @@ use native.Mathlib.Omega.{arith}
 use lib.ListN.{length, drop}
 use borrow.Author.Tests.{ltb-true, ltb-false}
 use Rattle.text.specs.Text.{filled, puts}
-use Rattle.lesson.specs.Lesson.{pointLines}
-use Rattle.lesson.proofs.Writing.{lines-next, lines-done, lines-over}
+use Rattle.printout.specs.Printout.{pointLines}
+use Rattle.printout.proofs.Writing.{lines-next, lines-done, lines-over}
 use borrow.Author.Needs.{needs}
-use Rattle.lesson.proofs.put_points.Statement.{statement}
-use Rattle.lesson.proofs.put_points.Tie as tie
+use Rattle.printout.proofs.put_points.Statement.{statement}
+use Rattle.printout.proofs.put_points.Tie as tie
 
 abbrev Inv-loop : tie.InvT-loop
 Inv-loop points count text₀ place at₀ i₀ text at i =

@@ -5,10 +5,10 @@ use mathlib.Core.List.{List, [], _∷_}
 use native.Mathlib.Omega.{arith}
 use lib.ListN.{length, getD, drop, length-append}
 use lib.Seq.{drop-cons, drop-length}
-use Rattle.text.specs.Text.{Filled, puts}
+use Rattle.text.specs.Text.{Filled, bytes, puts}
 use Rattle.points.specs.Points.{pointX, pointY, pointIntensity, pointBlink}
 use Rattle.text.proofs.Puts.{behind, length-decimal, length-number}
-use Rattle.lesson.specs.Lesson.{pointLine, pointLines, endingLine, badLine}
+use Rattle.printout.specs.Printout.{pointLine, pointLines, endingLine, badLine}
 
 lines-none : (n : ℕ) → pointLines n [] ≡ []
 unfolding pointLines
@@ -45,9 +45,9 @@ length-point-lines (suc n) [] = omega arith
 length-point-lines (suc n) (p ∷ ps) = rw length-append (omega (arith, length-point-line p, length-point-lines n ps))
 
 pub length-ending-line : (ending beats : ℕ) → length (endingLine ending beats) ≤ 25
-unfolding endingLine
+unfolding endingLine bytes
 length-ending-line ending beats = simp length-append (omega (arith, length-decimal ending, length-number beats 10))
 
 pub length-bad-line : (n : ℕ) → length (badLine n) ≤ 15
-unfolding badLine
+unfolding badLine bytes
 length-bad-line n = simp length-append (omega (arith, length-number n 10))

@@ -1,12 +1,13 @@
--- Section 'Control words' of 01, with their touches of 'One turn of a run': the beat of each control word. What the words set is in the files of this name of
--- control, skips and button_skips. Assumes nothing.
+-- Section 'Control words' of 01, with their touches of 'One turn of a run': the beat of each control word, and how every command beat begins. What the words
+-- set is in the files of this name of control, skips and button_skips. Assumes nothing.
 use Prim.Native.Nat.{ℕ}
-use mathlib.Core.Bool.{true, false}
+use mathlib.Core.Bool.{true, false, _||_}
 use lib.Dec.{eqb}
 use Rattle.words.specs.Words.{bit, bits, pick}
 use Rattle.addresses.specs.Addresses.{addressAfter, pointerAfter, pointerBefore, fieldZero}
 use Rattle.registers.specs.declared.Base.{Base}
 use Rattle.registers.specs.declared.Motion.the-variants.{Nothing}
+use Rattle.registers.specs.With.{withPen, withHold}
 use Rattle.control.specs.ControlWords.{parameter, mode, jump, push, pushedFirst, pushedSecond, pop}
 use Rattle.skips.specs.ControlWords.{flagSkip, count, sync, skipping}
 use Rattle.button_skips.specs.ControlWords.{buttonSkip, compare}
@@ -17,6 +18,10 @@ use Rattle.beam.specs.declared.Outcome.{Outcome}
 use Rattle.touches.specs.declared.Act.{Act}
 use Rattle.touches.specs.declared.Stores.the-variants.{Two}
 use Rattle.touches.specs.Touches.{Beat, fetch, act, whole}
+
+-- a command beat, of a control word or a data word, first ends pen hold if it is on (pen enable on, hold off)
+abbrev pub unheld : Base → Base
+unheld b = withHold (withPen b (b .pen || b .hold)) false
 
 -- a control word that stores nothing: registers, no motion, no point
 abbrev pub done : Base → Stop → Outcome

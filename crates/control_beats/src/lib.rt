@@ -4,7 +4,7 @@ ghost use Rattle.beam.specs.declared.Stop.the-variants.{None, Internal};
 ghost use Rattle.words.specs.Words.{pick};
 ghost use Rattle.touches.specs.Touches.{walk};
 ghost use Rattle.touches.specs.Said.{said};
-ghost use Rattle.control_beats.specs.ControlWords.{done, pushAct, jumpBeat, popBeat, miscellaneous, controlBeat};
+ghost use Rattle.control_beats.specs.ControlWords.{unheld, done, pushAct, jumpBeat, popBeat, miscellaneous, controlBeat};
 use beam::Lit;
 use beam::Outcome;
 use beam::Stop;
@@ -16,6 +16,17 @@ use touches::Act;
 use touches::Got;
 use touches::Stores;
 use touches::Turn;
+
+// The end of pen hold, with which every command beat begins.
+pub fn unheld(b: Base) -> Base
+    ensures { λ r. ⌜ r ≡ unheld b ⌝ }
+{
+    Base {
+        pen: b.pen | b.hold,
+        hold: false,
+        ..b
+    }
+}
 
 fn internal_if(on: bool) -> Stop
     ensures { λ r. ⌜ r ≡ pick on Internal None ⌝ }

@@ -1,18 +1,16 @@
--- The beat of a control word is bare: it lights nothing, begins no motion and never rests the display. So a display in control state without a motion and
--- without a stop request makes in a turn, whatever the room, what a sequence makes of its next word; and a sequence that goes on before its limit has
+-- The beat of a control word is bare: it lights nothing, begins no motion and never rests the display. So a sequence that goes on before its limit has
 -- reached data state or a stop request. Assumes nothing.
 use Prim.Native.Nat.{ℕ, zero, suc, _<_}
-use mathlib.Core.Path.{_≡_, refl, ap, _∙_}
-use mathlib.Core.Bool.{Bool, true, false, _&&_, _||_}
+use mathlib.Core.Path.{_≡_, refl}
+use mathlib.Core.Bool.{true, _||_}
 use mathlib.Core.List.{List}
 use native.Mathlib.Omega.{arith}
-use lib.Dec.{eqb, leb·zero}
-use Rattle.words.specs.Words.{bit, bits, pick}
+use lib.Dec.{eqb}
+use Rattle.words.specs.Words.{bit, bits}
 use Rattle.words.proofs.Laws.{pick-case}
 use Rattle.registers.specs.declared.Base.{Base}
 use Rattle.registers.specs.declared.Motion.the-variants.{Nothing}
 use Rattle.beam.specs.declared.Lit.the-variants.{Dark}
-use Rattle.moves.specs.DataWords.{nextMove}
 use Rattle.loan.specs.declared.Loan.{Loan}
 use Rattle.loan.specs.Loan.{mayStore}
 use Rattle.touches.specs.declared.Act.{Act}
@@ -24,9 +22,7 @@ use Rattle.touches.specs.Touches.{Beat, fetch, act, rest, Turn, Fails, Rests, D
 use Rattle.endings.specs.declared.Halt.{Halt}
 use Rattle.endings.specs.declared.Halt.the-variants.{Goes, Ends}
 use Rattle.endings.specs.Endings.{halted}
-use Rattle.control_beats.specs.ControlWords.{pushAct, jumpBeat, popBeat, controlBeat}
-use Rattle.turns.specs.OneTurn.{unheld, commandBy, commandBeat, unusable, roomFor, turn}
-use Rattle.turns.proofs.Walk.{walk-idle}
+use Rattle.control_beats.specs.ControlWords.{unheld, pushAct, jumpBeat, popBeat, controlBeat}
 use Rattle.control_sequence.specs.Sequence.{nextWord, ObeyedLeft, Go, follow, onTurn, obey}
 
 -- WHAT A CONTROL WORD DOES
@@ -83,24 +79,6 @@ module _ (l : Loan) (m : List ℕ) where
 
   pub next-bare : (b : Base) → Bare (walk l m (nextWord b))
   next-bare b = beat-bare (nextWord b) (control-bare (unheld b))
-
--- A TURN IN CONTROL STATE
-
--- what is bare asks for no room
-room-bare : (room : ℕ) (t : Turn) → Bare t → roomFor room t ≡ t
-unfolding roomFor pick
-room-bare room (Fails why) h = refl
-room-bare room (Rests resting) h = refl
-room-bare room (Does c) h = rw (h .0, leb·zero)
-
-pub turn-control : (l : Loan) (m : List ℕ) (room : ℕ) (b : Base) → b .datastate ≡ false → b .request ≡ false →
-    turn l room (record { base = b; motion = Nothing }) m ≡ walk l m (nextWord b)
-unfolding turn nextMove unusable commandBeat pick
-turn-control l m room b d q =
-    ap (roomFor room)
-    (walk-idle l m b q (ap (λ (t : Bool). t && (eqb (b .mode) 5 || eqb (b .mode) 7)) d)
-    ∙ ap (λ (t : Bool). walk l m (fetch (b .address) (λ w. commandBy (unheld b) w t))) d)
-    ∙ room-bare room _ (next-bare l m b)
 
 -- WHERE A SEQUENCE GOES ON
 

@@ -24,8 +24,7 @@ use Rattle.endings.specs.declared.Ending.the-variants.{Failed}
 use Rattle.endings.specs.declared.Halt.{Halt}
 use Rattle.endings.specs.declared.Halt.the-variants.{Goes, Ends}
 use Rattle.endings.specs.Endings.{halted}
-use Rattle.control_beats.specs.ControlWords.{controlBeat}
-use Rattle.turns.specs.OneTurn.{unheld}
+use Rattle.control_beats.specs.ControlWords.{unheld, controlBeat}
 use Rattle.control_sequence.specs.Sequence.{nextWord, ObeyedLeft, stays, follow, onTurn, obey}
 
 -- the loop's test

@@ -26,7 +26,7 @@ pub fn obey(start: Base, l: Loan, memory: &mut [u16], limit: u32) -> Obeyed
     while (0 < left) & !base.datastate & !base.request {
         match touches::fetched(l, &memory[..], base.address) {
             Got::Word(word) => match control_beats::control_beat(
-                turns::unheld(base),
+                control_beats::unheld(base),
                 word,
                 l,
                 &memory[..],

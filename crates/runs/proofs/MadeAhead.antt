@@ -4,7 +4,7 @@ use Prim.Native.Nat.{ℕ, zero, suc, _+_, _-_, _≤_, _<_}
 use mathlib.Core.Path.{_≡_, refl, sym, ap, _∙_, subst}
 use mathlib.Core.Bool.{Bool, true, false, _&&_, _||_}
 use mathlib.Core.List.{List}
-use lib.Dec.{leb}
+use lib.Dec.{eqb, leb, leb·zero}
 use lib.ListN.{length}
 use lib.Seq.{sets}
 use native.Mathlib.Omega.{arith}
@@ -28,8 +28,10 @@ use Rattle.move_sequence.specs.PlainMoves.{plain, SequenceLeft, onMove, sequenc
 use Rattle.move_sequence.proofs.Plain.{plainly}
 use Rattle.loan.specs.declared.Loan.{Loan}
 use Rattle.touches.specs.declared.Act.{Act}
-use Rattle.touches.specs.Touches.{Turn, Fails, Rests, Does, whole, allowed, walk, store}
-use Rattle.turns.specs.OneTurn.{roomFor, turn}
+use Rattle.touches.specs.Touches.{fetch, Turn, Fails, Rests, Does, whole, allowed, walk, store}
+use Rattle.control_beats.specs.ControlWords.{unheld}
+use Rattle.turns.specs.OneTurn.{commandBy, commandBeat, unusable, roomFor, turn}
+use Rattle.turns.proofs.Walk.{walk-idle}
 use Rattle.turns.specs.Drawing.{Drawing}
 use Rattle.endings.specs.declared.Ending.{Ending}
 use Rattle.endings.specs.declared.Ending.the-variants.{Failed}
@@ -37,7 +39,7 @@ use Rattle.endings.specs.declared.Halt.{Halt}
 use Rattle.endings.specs.declared.Halt.the-variants.{Goes, Ends}
 use Rattle.endings.specs.Endings.{halted}
 use Rattle.control_sequence.specs.Sequence.{nextWord, ObeyedLeft, follow, onTurn, obey}
-use Rattle.control_sequence.proofs.Bare.{Bare, next-bare, turn-control, reached}
+use Rattle.control_sequence.proofs.Bare.{Bare, next-bare, reached}
 use Rattle.runs.specs.declared.Ahead.{Ahead}
 use Rattle.runs.specs.Ahead.{AheadLeft, leaves, afterMoves, aheadBy, makeAhead}
 use Rattle.runs.specs.Runs.{ended, run}
@@ -48,6 +50,23 @@ moves-turn : (l : Loan) (m : List ℕ) (room : ℕ) (r : Registers) (v : Move) �
     leb (length (points (displaced (r .base) v .lit))) room ≡ true → turn l room r m ≡ Does (whole (displaced (r .base) v))
 unfolding turn walk allowed roomFor pick
 moves-turn l m room r v e t = rw (e, t)
+
+-- what is bare asks for no room
+room-bare : (room : ℕ) (t : Turn) → Bare t → roomFor room t ≡ t
+unfolding roomFor pick
+room-bare room (Fails why) h = refl
+room-bare room (Rests resting) h = refl
+room-bare room (Does c) h = rw (h .0, leb·zero)
+
+-- in control state without a motion and without a stop request a turn makes the next word of a sequence, whatever the room
+turn-control : (l : Loan) (m : List ℕ) (room : ℕ) (b : Base) → b .datastate ≡ false → b .request ≡ false →
+    turn l room (record { base = b; motion = Nothing }) m ≡ walk l m (nextWord b)
+unfolding turn nextMove unusable commandBeat pick
+turn-control l m room b d q =
+    ap (roomFor room)
+    (walk-idle l m b q (ap (λ (t : Bool). t && (eqb (b .mode) 5 || eqb (b .mode) 7)) d)
+    ∙ ap (λ (t : Bool). walk l m (fetch (b .address) (λ w. commandBy (unheld b) w t))) d)
+    ∙ room-bare room _ (next-bare l m b)
 
 -- NO MORE IS LEFT THAN WAS GIVEN
 

@@ -22,9 +22,10 @@ use Rattle.loan.specs.declared.Loan.{Loan}
 use Rattle.touches.specs.declared.Act.{Act}
 use Rattle.touches.specs.Touches.{Turn, Fails, Rests, Does, walk}
 use Rattle.touches.proofs.Kept.{GoodBeat, GoodTurn, walk-good}
+use Rattle.control_beats.specs.ControlWords.{unheld}
 use Rattle.control_beats.proofs.Kept.{control-good}
 use Rattle.beam.specs.DataWords.{points}
-use Rattle.turns.specs.OneTurn.{longBeat, dataBeat, unheld, commandBeat, unusable, idleBeat, beatBy, beat, roomFor, turn}
+use Rattle.turns.specs.OneTurn.{longBeat, dataBeat, commandBeat, unusable, idleBeat, beatBy, beat, roomFor, turn}
 
 -- THE DISPATCH
 

@@ -10,7 +10,8 @@ use Rattle.moves.specs.declared.Moving.the-variants.{Still}
 use Rattle.moves.specs.DataWords.{nextMove}
 use Rattle.loan.specs.declared.Loan.{Loan}
 use Rattle.touches.specs.Touches.{walk}
-use Rattle.turns.specs.OneTurn.{unheld, commandBy, commandBeat, unusable, idleBy, idleBeat}
+use Rattle.control_beats.specs.ControlWords.{unheld}
+use Rattle.turns.specs.OneTurn.{commandBy, commandBeat, unusable, idleBy, idleBeat}
 
 module _ (l : Loan) (m : List ℕ) (b : Base) where
   pub walk-idle : {request wrong : Bool} → b .request ≡ request → unusable b ≡ wrong → walk l m (idleBeat b) ≡ walk l m (idleBy b request wrong)

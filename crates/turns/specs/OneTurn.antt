@@ -1,7 +1,7 @@
 -- Section 'One turn of a run' of 01: the beat that the registers make, and tests 2 to 5 of a turn. How a beat's touches are made is in touches, the beats
 -- of control words are in control_beats. Assumes nothing.
 use Prim.Native.Nat.{ℕ}
-use mathlib.Core.Bool.{Bool, false, _&&_, _||_}
+use mathlib.Core.Bool.{Bool, _&&_, _||_}
 use mathlib.Core.List.{List}
 use lib.Dec.{eqb, leb}
 use lib.ListN.{length}
@@ -9,7 +9,6 @@ use Rattle.words.specs.Words.{pick}
 use Rattle.addresses.specs.Addresses.{addressAfter}
 use Rattle.registers.specs.declared.Base.{Base}
 use Rattle.registers.specs.declared.Registers.{Registers}
-use Rattle.registers.specs.With.{withPen, withHold}
 use Rattle.moves.specs.declared.Moving.{Moving}
 use Rattle.moves.specs.declared.Moving.the-variants.{Still, Going}
 use Rattle.beam.specs.DataWords.{points}
@@ -19,7 +18,7 @@ use Rattle.loan.specs.declared.Loan.{Loan}
 use Rattle.touches.specs.declared.Why.the-variants.{Full}
 use Rattle.touches.specs.declared.Resting.the-variants.{External, Unusable}
 use Rattle.touches.specs.Touches.{Beat, fetch, act, rest, Turn, Fails, Rests, Does, whole, walk}
-use Rattle.control_beats.specs.ControlWords.{controlBeat}
+use Rattle.control_beats.specs.ControlWords.{unheld, controlBeat}
 
 -- DATA WORDS
 
@@ -38,10 +37,7 @@ dataBeat b w =
 
 -- A BEAT AND A TURN
 
--- a command beat first ends pen hold if it is on (pen enable on, hold off)
-abbrev pub unheld : Base → Base
-unheld b = withHold (withPen b (b .pen || b .hold)) false
-
+-- a command beat ends pen hold and does the command: a data word or a control word
 abbrev pub commandBy : Base → ℕ → Bool → Beat
 commandBy b w datastate = pick datastate (dataBeat b w) (controlBeat b w)
 

@@ -3,7 +3,7 @@ ghost use mathlib.Core.Path.{_≡_};
 ghost use mathlib.Core.Bool.{true, false};
 ghost use Rattle.touches.specs.Touches.{Does, whole, walk};
 ghost use Rattle.touches.specs.Said.{said};
-ghost use Rattle.turns.specs.OneTurn.{longBeat, dataBeat, unheld, commandBeat, unusable, idleBeat, roomFor, turn};
+ghost use Rattle.turns.specs.OneTurn.{longBeat, dataBeat, commandBeat, unusable, idleBeat, roomFor, turn};
 ghost use Rattle.turns.specs.Drawing.{Drawing};
 use beam::Lit;
 use beam::Outcome;
@@ -62,23 +62,12 @@ fn data_beat(b: Base, word: u16, l: Loan, memory: &[u16], room: usize) -> Turn
     }
 }
 
-// The end of pen hold, with which every command beat begins.
-pub fn unheld(b: Base) -> Base
-    ensures { λ r. ⌜ r ≡ unheld b ⌝ }
-{
-    Base {
-        pen: b.pen | b.hold,
-        hold: false,
-        ..b
-    }
-}
-
 // The beat of a data word: a command in data state.
 fn command_beat(b: Base, word: u16, l: Loan, memory: &[u16], room: usize) -> Turn
     requires { ⌜ b .datastate ≡ true ⌝ }
     ensures { λ r. ⌜ said r ≡ roomFor room (walk l (now (memory .entry)) (commandBeat b word)) ⌝ }
 {
-    let ready = unheld(b);
+    let ready = control_beats::unheld(b);
     data_beat(ready, word, l, memory, room)
 }
 

@@ -14,101 +14,142 @@
 extern "C" {
 #endif
 
-/* The places of a row of registers: 25 registers, the kind of motion, and the motion's numbers. A number outside the limits that stand here is refusal 4. */
+/* The places of a row of registers: 25 registers, the kind of motion, and the motion's numbers. Each place has its limits here; a number outside them is
+   refusal 4. Refused together, as 4 too, are only a motion with a state or a mode that it cannot have, and numbers of a motion that do not agree, as said with
+   them. Any other registers go together: a display may run with a flag on that stops it, and a stopped one may have a stop request. */
 enum eveglome_place {
-    EVEGLOME_ADDRESS = 0,             /* display address, up to 32,767 */
-    EVEGLOME_POINTER = 1,             /* pushdown pointer, up to 4,095 */
-    EVEGLOME_X = 2,                   /* x and y up to 8,191 */
-    EVEGLOME_Y = 3,
-    EVEGLOME_STATE = 4,               /* 0 control, 1 data */
-    EVEGLOME_MODE = 5,                /* up to 7 */
-    EVEGLOME_SCALE = 6,               /* up to 3 */
-    EVEGLOME_INTENSITY = 7,           /* up to 7 */
-    EVEGLOME_PEN_ENABLE = 8,          /* this and what follows: 0 or 1, but for buttons and conditions */
-    EVEGLOME_PEN_HOLD = 9,
-    EVEGLOME_PEN_SENSE = 10,          /* LPSI */
-    EVEGLOME_BLINK = 11,
-    EVEGLOME_IDLE = 12,
-    EVEGLOME_BUTTONS = 13,            /* 12 bits, button 0 the leftmost */
-    EVEGLOME_HIT_1 = 14,              /* the hit flag of bank 1, buttons 0 to 5 */
-    EVEGLOME_HIT_2 = 15,              /* the hit flag of bank 2, buttons 6 to 11 */
-    EVEGLOME_INTERNAL_STOP_FLAG = 16,
-    EVEGLOME_EXTERNAL_STOP_FLAG = 17,
-    EVEGLOME_VERTICAL_EDGE_FLAG = 18,
-    EVEGLOME_HORIZONTAL_EDGE_FLAG = 19,
-    EVEGLOME_PEN_FLAG = 20,
-    EVEGLOME_MANUAL_INTERRUPT_FLAG = 21,
-    EVEGLOME_CONDITIONS = 22,         /* the 12 initial-condition bits, bit 0 the leftmost */
-    EVEGLOME_RUNNING = 23,
-    EVEGLOME_STOP_REQUEST = 24,
-    EVEGLOME_MOTION = 25,             /* 0 nothing, 1 a line, 2 bytes; what its kind does not use is not looked at, and written 0 */
+    EVEGLOME_ADDRESS = 0,                 /* display address, up to 32,767 */
+    EVEGLOME_POINTER = 1,                 /* pushdown pointer, up to 4,095 */
+    EVEGLOME_X = 2,                       /* up to 8,191; on the screen, in sector 0, up to 1,023 */
+    EVEGLOME_Y = 3,                       /* the same */
+    EVEGLOME_STATE = 4,                   /* 0 control, 1 data; 1 if there is a motion */
+    EVEGLOME_MODE = 5,                    /* up to 7; with a line 2, 3 or 4, with bytes 1 */
+    EVEGLOME_SCALE = 6,                   /* up to 3 */
+    EVEGLOME_INTENSITY = 7,               /* up to 7 */
+    EVEGLOME_PEN_ENABLE = 8,              /* 0 or 1 */
+    EVEGLOME_PEN_HOLD = 9,                /* 0 or 1 */
+    EVEGLOME_PEN_SENSE = 10,              /* 0 or 1; LPSI */
+    EVEGLOME_BLINK = 11,                  /* 0 or 1 */
+    EVEGLOME_IDLE = 12,                   /* 0 or 1 */
+    EVEGLOME_BUTTONS = 13,                /* up to 4,095: 12 bits, button 0 the leftmost */
+    EVEGLOME_HIT_1 = 14,                  /* 0 or 1; the hit flag of bank 1, buttons 0 to 5 */
+    EVEGLOME_HIT_2 = 15,                  /* 0 or 1; the hit flag of bank 2, buttons 6 to 11 */
+    EVEGLOME_INTERNAL_STOP_FLAG = 16,     /* 0 or 1 */
+    EVEGLOME_EXTERNAL_STOP_FLAG = 17,     /* 0 or 1 */
+    EVEGLOME_VERTICAL_EDGE_FLAG = 18,     /* 0 or 1 */
+    EVEGLOME_HORIZONTAL_EDGE_FLAG = 19,   /* 0 or 1 */
+    EVEGLOME_PEN_FLAG = 20,               /* 0 or 1 */
+    EVEGLOME_MANUAL_INTERRUPT_FLAG = 21,  /* 0 or 1 */
+    EVEGLOME_CONDITIONS = 22,             /* up to 4,095: the 12 initial-condition bits, bit 0 the leftmost */
+    EVEGLOME_RUNNING = 23,                /* 0 or 1 */
+    EVEGLOME_STOP_REQUEST = 24,           /* 0 or 1 */
+    EVEGLOME_MOTION = 25,                 /* 0 nothing, 1 a line, 2 bytes; what its kind does not use is not looked at, and written 0 */
 
     /* A line, only in data state and modes 2, 3, 4. */
-    EVEGLOME_LINE_MINUS_Y = 26,       /* signs, lit and escape: 0 or 1 */
-    EVEGLOME_LINE_MINUS_X = 27,
-    EVEGLOME_LINE_MAGNITUDE_Y = 28,   /* magnitudes up to 1,023 */
-    EVEGLOME_LINE_MAGNITUDE_X = 29,
-    EVEGLOME_LINE_MOVES = 30,         /* 01's n: the larger magnitude, which is at least 1 */
-    EVEGLOME_LINE_DONE = 31,          /* 01's k: below n */
-    EVEGLOME_LINE_LIT = 32,
-    EVEGLOME_LINE_ESCAPE = 33,
+    EVEGLOME_LINE_MINUS_Y = 26,           /* 0 or 1 */
+    EVEGLOME_LINE_MINUS_X = 27,           /* 0 or 1 */
+    EVEGLOME_LINE_MAGNITUDE_Y = 28,       /* up to 1,023; not 0 if the other magnitude is */
+    EVEGLOME_LINE_MAGNITUDE_X = 29,       /* the same */
+    EVEGLOME_LINE_MOVES = 30,             /* 01's n: just the larger magnitude, so 1 to 1,023 */
+    EVEGLOME_LINE_DONE = 31,              /* 01's k: below n, so up to 1,022 */
+    EVEGLOME_LINE_LIT = 32,               /* 0 or 1 */
+    EVEGLOME_LINE_ESCAPE = 33,            /* 0 or 1 */
 
-    /* Bytes of an increment word, only in data state and mode 1. */
-    EVEGLOME_BYTES_WORD = 26,         /* 12 bits */
-    EVEGLOME_BYTES_SIDE = 27,         /* 0 the left byte, 1 the right one, which only if the left byte does not escape */
-    EVEGLOME_BYTES_MOVES_LEFT = 28,   /* 1 to 3, and no more than that byte asks */
+    /* Bytes of an increment word, only in data state and mode 1. Bits 1 and 2 of a byte say its moves: 00 one, and the byte escapes; 01, 10, 11 one, two,
+       three. */
+    EVEGLOME_BYTES_WORD = 26,             /* up to 4,095 */
+    EVEGLOME_BYTES_SIDE = 27,             /* 0 the left byte, 1 the right one, which only if the left byte does not escape */
+    EVEGLOME_BYTES_MOVES_LEFT = 28,       /* 1 to 3, and no more than the moves of that byte */
 
-    EVEGLOME_ROW = 34                 /* how many places there are */
+    EVEGLOME_ROW = 34                     /* how many places there are */
 };
 
-/* The places of a loan: two half-open ranges. The file range may be fetched, the list range fetched and written. */
+/* The places of a loan: two half-open ranges, which may be empty or overlap. The file range may be fetched, the list range fetched and written. A range with
+   low above high, or high above 32,768, is refusal 3. */
 enum eveglome_loan {
-    EVEGLOME_FILE_LOW = 0,
-    EVEGLOME_FILE_HIGH = 1,
-    EVEGLOME_LIST_LOW = 2,
-    EVEGLOME_LIST_HIGH = 3,
-    EVEGLOME_LOAN = 4                 /* how many places there are */
+    EVEGLOME_FILE_LOW = 0,                /* up to EVEGLOME_FILE_HIGH */
+    EVEGLOME_FILE_HIGH = 1,               /* up to 32,768 */
+    EVEGLOME_LIST_LOW = 2,                /* up to EVEGLOME_LIST_HIGH */
+    EVEGLOME_LIST_HIGH = 3,               /* up to 32,768 */
+    EVEGLOME_LOAN = 4                     /* how many places there are */
 };
 
 /* The places of an answer. A refusal has word 0, beats 0, points 0. */
 enum eveglome_answer {
-    EVEGLOME_ENDING = 0,              /* an eveglome_ending */
-    EVEGLOME_WORD = 1,                /* what a read answers, else 0 */
-    EVEGLOME_BEATS = 2,               /* the beats that a run made */
-    EVEGLOME_POINTS = 3,              /* how many entries of the point list were filled, from the first */
-    EVEGLOME_ANSWER = 4               /* how many places there are */
+    EVEGLOME_ENDING = 0,                  /* an eveglome_ending */
+    EVEGLOME_WORD = 1,                    /* what a read answers, up to 4,095, else 0 */
+    EVEGLOME_BEATS = 2,                   /* the beats that a run made, up to its budget */
+    EVEGLOME_POINTS = 3,                  /* how many entries of the point list a run filled, from the first */
+    EVEGLOME_ANSWER = 4                   /* how many places there are */
 };
 
 /* How a call ended: 0 for an operation that was done, 1 to 6 refused, 10 to 18 how a run ended. */
 enum eveglome_ending {
-    EVEGLOME_DONE = 0,
-    EVEGLOME_MEMORY_LENGTH = 1,       /* memory is not 32,768 long */
-    EVEGLOME_BUDGET_TOO_LARGE = 2,    /* budget above 65,535 */
-    EVEGLOME_BAD_LOAN = 3,            /* low above high, or high above 32,768 */
-    EVEGLOME_REGISTERS_OUT_OF_RANGE = 4,
-    EVEGLOME_UNKNOWN_OPERATION = 5,
-    EVEGLOME_OPERAND_OUT_OF_RANGE = 6,
-    EVEGLOME_NOT_RUNNING = 10,
-    EVEGLOME_BUDGET_SPENT = 11,
-    EVEGLOME_INTERNAL_STOP = 12,
-    EVEGLOME_EXTERNAL_STOP = 13,
-    EVEGLOME_EDGE = 14,
-    EVEGLOME_UNUSABLE_MODE = 15,
-    EVEGLOME_OUTSIDE_LOAN = 16,
-    EVEGLOME_WIDE_WORD = 17,          /* a word above 4,095 */
-    EVEGLOME_POINTS_FULL = 18
+    EVEGLOME_DONE = 0,                    /* an operation was done */
+    EVEGLOME_MEMORY_LENGTH = 1,           /* memory is not 32,768 long */
+    EVEGLOME_BUDGET_TOO_LARGE = 2,        /* budget above 65,535 */
+    EVEGLOME_BAD_LOAN = 3,                /* low above high, or high above 32,768 */
+    EVEGLOME_REGISTERS_OUT_OF_RANGE = 4,  /* outside the limits that stand with the places */
+    EVEGLOME_UNKNOWN_OPERATION = 5,       /* no eveglome_operation */
+    EVEGLOME_OPERAND_OUT_OF_RANGE = 6,    /* above what the operation takes */
+    EVEGLOME_NOT_RUNNING = 10,            /* not running at entry */
+    EVEGLOME_BUDGET_SPENT = 11,           /* still running */
+    EVEGLOME_INTERNAL_STOP = 12,          /* stopped by a word */
+    EVEGLOME_EXTERNAL_STOP = 13,          /* stopped by a stop request */
+    EVEGLOME_EDGE = 14,                   /* stopped by a move past an edge */
+    EVEGLOME_UNUSABLE_MODE = 15,          /* stopped in data state and mode 5 or 7 */
+    EVEGLOME_OUTSIDE_LOAN = 16,           /* still running, before a fetch outside both ranges or a write outside the list range */
+    EVEGLOME_WIDE_WORD = 17,              /* still running, before a word above 4,095 */
+    EVEGLOME_POINTS_FULL = 18             /* still running, before a point that has no room */
+};
+
+/* The host operations. One that is done answers EVEGLOME_DONE, and word 0 unless it is a read. Its operand is 0 unless one stands here; another number is
+   refusal 6. A number that is no operation is refusal 5. The flags that stop are those of internal stop, external stop, both edges and the pen. Bits of a word
+   count from 0 at the left. */
+enum eveglome_operation {
+    EVEGLOME_START = 1,                   /* operand: an address up to 32,767. Runs from it in control state and mode 0; clears the flags that stop, stop
+                                             request, hold and motion */
+    EVEGLOME_SET_POINTER = 2,             /* operand: the pushdown pointer, up to 4,095 */
+    EVEGLOME_SET_CONDITIONS = 3,          /* operand: the 12 initial-condition bits, up to 4,095 */
+    EVEGLOME_RESUME = 4,                  /* if stopped, clears the flags that stop, and runs; if the pen flag was on and condition bit 2 is 1, pen enable goes
+                                             off, and hold goes on if bit 3 is 0 */
+    EVEGLOME_CLEAR = 5,                   /* stops in control state and mode 0; clears the flags that stop, stop request, hold, motion and the low 12 bits of
+                                             the address */
+    EVEGLOME_ASK_TO_STOP = 6,             /* if running, a stop request: a run ends by it as soon as no motion is left */
+    EVEGLOME_PEN_LIGHT = 7,               /* the pen sees light: pen sense on; if running and pen enable is on, pen flag on and stopped */
+    EVEGLOME_PRESS_BUTTON = 8,            /* operand: a button, up to 11. Complements it and sets the hit flag of its bank */
+    EVEGLOME_CLEAR_GROUP = 9,             /* operand: 0 for buttons 0 to 5, 1 for 6 to 11. Clears these buttons; the hit flags stay */
+    EVEGLOME_MANUAL_INTERRUPT_ON = 10,    /* sets the manual interrupt flag, which stops nothing */
+    EVEGLOME_MANUAL_INTERRUPT_OFF = 11,   /* clears it */
+    EVEGLOME_IDLE_ON = 12,                /* sets idle */
+    EVEGLOME_READ_POINTER = 20,           /* answers the pushdown pointer */
+    EVEGLOME_READ_X = 21,                 /* answers the low 12 bits of x; the high one is in status 2 */
+    EVEGLOME_READ_Y = 22,                 /* answers the low 12 bits of y; the high one is in status 2 */
+    EVEGLOME_READ_ADDRESS = 23,           /* answers the low 12 bits of the display address; the high three are in status 1 */
+    EVEGLOME_READ_STATUS_1 = 24,          /* answers status 1, then clears both hit flags. Bits 0 to 8: pen flag, vertical edge, horizontal edge, internal stop,
+                                             in sector 0, control state, manual interrupt, either hit flag, interrupt; 9 to 11: the high bits of the address */
+    EVEGLOME_READ_STATUS_2 = 25,          /* answers status 2. Bit 0: in a right byte; 1: pen enable; 2, 3: the high bits of y and x; 4, 5: scale; 6 to 8: mode;
+                                             9 to 11: intensity */
+    EVEGLOME_READ_BUTTONS = 26            /* answers the 12 buttons, button 0 in bit 0, the leftmost */
 };
 
 /* How many words a memory has. */
 #define EVEGLOME_MEMORY 32768
 
+/* The parts of an entry of the point list, x + 1,024 y + 2^20 intensity + 2^23 blink: x and y up to 1,023, intensity up to 7, blink 0 or 1. */
+#define EVEGLOME_POINT_X(point) ((unsigned)((point) & 1023))
+#define EVEGLOME_POINT_Y(point) ((unsigned)((point) >> 10 & 1023))
+#define EVEGLOME_POINT_INTENSITY(point) ((unsigned)((point) >> 20 & 7))
+#define EVEGLOME_POINT_BLINK(point) ((unsigned)((point) >> 23 & 1))
+
 /* Writes fresh registers: all zero, control state, not running, no motion. */
 void eveglome_fresh(uint16_t registers[EVEGLOME_ROW]);
 
-/* Makes host operation 1 to 12 or 20 to 26. Refused as 4, 5 or 6, in this order. */
+/* Makes an eveglome_operation. Refused as 4, 5 or 6, in this order. */
 void eveglome_operate(uint16_t registers[EVEGLOME_ROW], uint32_t operation, uint32_t operand, uint32_t answer[EVEGLOME_ANSWER]);
 
-/* Runs the display for at most `budget` beats. A lit point is x + 1,024 y + 2^20 intensity + 2^23 blink. Refused as 1, 2, 3 or 4, in this order. */
+/* Runs the display for at most `budget` beats, up to 65,535. The points that it lights stand in the first entries of `points`, as many as it answers; the rest
+   stays. Refused as 1, 2, 3 or 4, in this order. */
 void eveglome_run(uint16_t registers[EVEGLOME_ROW], const uint16_t loan[EVEGLOME_LOAN], uint16_t *memory, size_t memory_length, uint32_t *points,
                   size_t points_length, uint32_t budget, uint32_t answer[EVEGLOME_ANSWER]);
 

@@ -17,12 +17,11 @@ int main(void) {
     memory[00203] = 01400;
 
     eveglome_fresh(registers);
-    eveglome_operate(registers, 1, 00200, answer);
+    eveglome_operate(registers, EVEGLOME_START, 00200, answer);
     eveglome_run(registers, loan, memory, EVEGLOME_MEMORY, points, 16, 65535, answer);
-    for (uint32_t i = 0; i < answer[EVEGLOME_POINTS]; i++) {
-        uint32_t p = points[i];
-        printf("%u %u %u %u\n", (unsigned)(p % 1024), (unsigned)(p / 1024 % 1024), (unsigned)(p >> 20 & 7), (unsigned)(p >> 23));
-    }
+    for (uint32_t i = 0; i < answer[EVEGLOME_POINTS]; i++)
+        printf("%u %u %u %u\n", EVEGLOME_POINT_X(points[i]), EVEGLOME_POINT_Y(points[i]), EVEGLOME_POINT_INTENSITY(points[i]),
+               EVEGLOME_POINT_BLINK(points[i]));
     printf("ending %u beats %u\n", (unsigned)answer[EVEGLOME_ENDING], (unsigned)answer[EVEGLOME_BEATS]);
 
     eveglome_run(registers, loan, memory, EVEGLOME_MEMORY, points, 16, 65536, answer);

@@ -31,8 +31,13 @@ static struct name endings[] = {
     NAME(OPERAND_OUT_OF_RANGE), NAME(NOT_RUNNING), NAME(BUDGET_SPENT), NAME(INTERNAL_STOP), NAME(EXTERNAL_STOP), NAME(EDGE), NAME(UNUSABLE_MODE),
     NAME(OUTSIDE_LOAN), NAME(WIDE_WORD), NAME(POINTS_FULL), LAST};
 
+static struct name operations[] = {
+    NAME(START), NAME(SET_POINTER), NAME(SET_CONDITIONS), NAME(RESUME), NAME(CLEAR), NAME(ASK_TO_STOP), NAME(PEN_LIGHT), NAME(PRESS_BUTTON),
+    NAME(CLEAR_GROUP), NAME(MANUAL_INTERRUPT_ON), NAME(MANUAL_INTERRUPT_OFF), NAME(IDLE_ON), NAME(READ_POINTER), NAME(READ_X), NAME(READ_Y),
+    NAME(READ_ADDRESS), NAME(READ_STATUS_1), NAME(READ_STATUS_2), NAME(READ_BUTTONS), LAST};
+
 /* What a call is lent. Each list has room to spare, so that a place with a wrong number stays inside it. */
-enum { SPARE = 64, ROOM = 8, TEXT = 1024, PARTS = 64 };
+enum { SPARE = 64, ROOM = 8, TEXT = 1024, PARTS = 64, OPERATIONS = 1024 };
 static uint16_t registers[EVEGLOME_ROW + SPARE];
 static uint16_t loan[EVEGLOME_LOAN + SPARE];
 static uint16_t memory[EVEGLOME_MEMORY + SPARE];
@@ -103,21 +108,31 @@ static void set(char *setting) {
         table_fault("cannot be set", key);
 }
 
-/* A point of the table, x,y,intensity,blink, as the point list has it. */
-static uint32_t point_of(char *text) {
+/* Whether an entry of the point list is the point of the table, x,y,intensity,blink: by 01's sum, and by each of its parts. */
+static int is_point(uint32_t entry, char *text) {
     static const unsigned shifts[] = {0, 10, 20, 23};
-    uint32_t point = 0;
+    const unsigned parts[] = {EVEGLOME_POINT_X(entry), EVEGLOME_POINT_Y(entry), EVEGLOME_POINT_INTENSITY(entry), EVEGLOME_POINT_BLINK(entry)};
+    uint32_t sum = 0;
+    int same = 1;
     for (size_t i = 0; i < 4; i++) {
         if (!text) table_fault("no point in", shown);
-        point += (uint32_t)number_of(cut(&text, ',')) << shifts[i];
+        uint32_t part = (uint32_t)number_of(cut(&text, ','));
+        same &= parts[i] == part;
+        sum += part << shifts[i];
     }
-    return point;
+    return same && entry == sum;
 }
 
 static size_t ending_of(const char *text) {
     struct name *name = find(endings, text);
     if (!name) table_fault("no ending", text);
     return name->number;
+}
+
+/* An operation of the table: a name, or a number of 01. */
+static uint32_t operation_of(const char *text) {
+    struct name *name = find(operations, text);
+    return (uint32_t)(name ? name->number : number_of(text));
 }
 
 static void call(const char *clause, char *parts[], size_t count) {
@@ -132,14 +147,14 @@ static void call(const char *clause, char *parts[], size_t count) {
         beats = number_of(parts[told + 2]);
         lit = count - (told + 3);
         eveglome_run(registers, loan, memory, memory_length, points, points_length, (uint32_t)number_of(parts[1]), answer);
-        for (size_t i = 0; i < lit && i < ROOM; i++) right &= points[i] == point_of(parts[told + 3 + i]);
+        for (size_t i = 0; i < lit && i < ROOM; i++) right &= is_point(points[i], parts[told + 3 + i]);
     } else {
         if (told + 2 != count) table_fault("no operation", clause);
         if (*parts[told + 1] >= '0' && *parts[told + 1] <= '9')
             word = number_of(parts[told + 1]);
         else
             ending = ending_of(parts[told + 1]);
-        eveglome_operate(registers, (uint32_t)number_of(parts[0]), told == 2 ? (uint32_t)number_of(parts[1]) : 0, answer);
+        eveglome_operate(registers, operation_of(parts[0]), told == 2 ? (uint32_t)number_of(parts[1]) : 0, answer);
     }
 
     right &= answer[EVEGLOME_ENDING] == ending && answer[EVEGLOME_WORD] == word && answer[EVEGLOME_BEATS] == beats && answer[EVEGLOME_POINTS] == lit;
@@ -148,8 +163,8 @@ static void call(const char *clause, char *parts[], size_t count) {
            (unsigned long)answer[EVEGLOME_ENDING], (unsigned long)answer[EVEGLOME_WORD], (unsigned long)answer[EVEGLOME_BEATS],
            (unsigned long)answer[EVEGLOME_POINTS]);
     for (size_t i = 0; i < answer[EVEGLOME_POINTS] && i < ROOM; i++)
-        printf(" %u,%u,%u,%u", (unsigned)(points[i] % 1024), (unsigned)(points[i] / 1024 % 1024), (unsigned)(points[i] >> 20 & 7),
-               (unsigned)(points[i] >> 23));
+        printf(" %u,%u,%u,%u", EVEGLOME_POINT_X(points[i]), EVEGLOME_POINT_Y(points[i]), EVEGLOME_POINT_INTENSITY(points[i]),
+               EVEGLOME_POINT_BLINK(points[i]));
     printf("\n");
     wrong = 1;
 }
@@ -158,8 +173,8 @@ static void make_row(char *text) {
     char *names = cut(&text, ':'), *parts[PARTS];
     strcpy(shown, names);
     for (size_t i = 0, count = split(names, parts); i < count; i++) {
-        struct name *lists[] = {places, loans, answers, endings}, *name = NULL;
-        for (size_t list = 0; list < 4 && !name; list++) name = find(lists[list], parts[i]);
+        struct name *lists[] = {places, loans, answers, endings, operations}, *name = NULL;
+        for (size_t list = 0; list < 5 && !name; list++) name = find(lists[list], parts[i]);
         if (!name) table_fault("no such name", parts[i]);
         name->shown = 1;
     }
@@ -204,6 +219,19 @@ static void ask_for_rows(const struct name *names, size_t count, const char *cou
         }
 }
 
+/* Every operation that is not refused as unknown has a name. */
+static void ask_for_operations(void) {
+    for (size_t number = 0; number < OPERATIONS; number++) {
+        size_t i = 0;
+        eveglome_fresh(registers);
+        eveglome_operate(registers, (uint32_t)number, 0, answer);
+        while (operations[i].text && operations[i].number != number) i++;
+        if ((answer[EVEGLOME_ENDING] == EVEGLOME_UNKNOWN_OPERATION) == !operations[i].text) continue;
+        printf("operation %lu: it is %s\n", (unsigned long)number, operations[i].text ? "unknown, but has a name" : "known, but has no name");
+        wrong = 1;
+    }
+}
+
 /* Fresh registers and the answer of a read of them are all 0: as many numbers as are written over a list of other numbers. */
 static void count_places(void) {
     size_t row = 0, told = 0;
@@ -239,5 +267,7 @@ int main(int count, char **arguments) {
     ask_for_rows(loans, EVEGLOME_LOAN, "LOAN");
     ask_for_rows(answers, EVEGLOME_ANSWER, "ANSWER");
     ask_for_rows(endings, 0, "endings");
+    ask_for_rows(operations, 0, "operations");
+    ask_for_operations();
     return wrong;
 }

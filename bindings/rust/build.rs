@@ -6,14 +6,15 @@ use std::path::Path;
 fn main() {
     let folder = Path::new(&env::var("CARGO_MANIFEST_DIR").unwrap()).join("../../target/staticlib");
     let archive = folder.join("libexports.a");
+    let system = env::var("CARGO_CFG_TARGET_OS").unwrap();
     let machine = env::var("CARGO_CFG_TARGET_ARCH").unwrap();
     assert!(
-        machine == "x86_64",
-        "the archive is x86-64 code and cannot be linked on {machine}"
+        (system.as_str(), machine.as_str()) == ("linux", "x86_64"),
+        "the archive is x86-64 Linux code and cannot be linked on {system} {machine}"
     );
     assert!(
         archive.exists(),
-        "{} is missing: run `rt staticlib exports` first",
+        "{} is missing: run `rt staticlib exports` at the repository's top first",
         archive.display()
     );
     println!("cargo:rerun-if-changed={}", archive.display());

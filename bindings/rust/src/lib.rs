@@ -1,26 +1,40 @@
 //! Eveglome for Rust: a proved simulator of the DEC 338 display, behind a safe interface.
 //!
 //! Whatever numbers arrive, a call is refused or done: nothing has to be checked first. A refused
-//! call leaves registers, memory and points as they were. The exact rules are document 01's, and
-//! `../eveglome.h` says what each number means.
+//! call leaves registers, memory and points as they were. The exact rules are document 01's.
+//!
+//! [`fresh`], [`operate`] and [`run`] are the calls. Their numbers have names: [`place`] names the
+//! registers, [`operation`] the host operations, [`ending`] the refusals and how a run ended.
+//! [`Point::of`] takes a lit point apart.
+#![deny(missing_docs)]
 
 #[cfg(test)]
 mod meaning;
 mod numbers;
 
 use numbers::{answer, loan};
-pub use numbers::{ending, place, MEMORY};
+pub use numbers::{ending, operation, place, MEMORY};
+
+/// The example of the README, which is tested with the documentation.
+#[cfg(doctest)]
+#[doc = include_str!("../README.md")]
+struct ReadMe;
 
 /// Registers as a row of numbers, by the places of [`place`].
 #[derive(Clone, Copy, Debug, PartialEq, Eq)]
 pub struct Row(pub [u16; place::ROW]);
 
-/// Two half-open ranges: the file range may be fetched, the list range fetched and written.
+/// Two half-open ranges, which may be empty or overlap: the file range may be fetched, the list
+/// range fetched and written. A range with low above high, or high above 32,768, is refusal 3.
 #[derive(Clone, Copy, Debug, PartialEq, Eq)]
 pub struct Loan {
+    /// The first word of the file range, up to `file_high`.
     pub file_low: u16,
+    /// The word behind the file range, up to 32,768.
     pub file_high: u16,
+    /// The first word of the list range, up to `list_high`.
     pub list_low: u16,
+    /// The word behind the list range, up to 32,768.
     pub list_high: u16,
 }
 
@@ -48,9 +62,9 @@ impl Loan {
 pub struct Answer {
     /// One of [`ending`]: a refusal, how a run ended, or 0 for an operation that was done.
     pub ending: u32,
-    /// What a read answers, else 0.
+    /// What a read answers, up to 4,095, else 0.
     pub word: u32,
-    /// The beats that a run made.
+    /// The beats that a run made, up to its budget.
     pub beats: u32,
     /// How many entries of the point list a run filled, from the first.
     pub points: u32,
@@ -63,6 +77,31 @@ impl Answer {
             word: numbers[answer::WORD],
             beats: numbers[answer::BEATS],
             points: numbers[answer::POINTS],
+        }
+    }
+}
+
+/// A lit point.
+#[derive(Clone, Copy, Debug, PartialEq, Eq)]
+pub struct Point {
+    /// Up to 1,023.
+    pub x: u16,
+    /// Up to 1,023.
+    pub y: u16,
+    /// Up to 7.
+    pub intensity: u8,
+    /// Whether it blinks.
+    pub blink: bool,
+}
+
+impl Point {
+    /// Takes an entry of the point list apart: x + 1,024 y + 2^20 intensity + 2^23 blink.
+    pub fn of(entry: u32) -> Point {
+        Point {
+            x: (entry & 1_023) as u16,
+            y: (entry >> 10 & 1_023) as u16,
+            intensity: (entry >> 20 & 7) as u8,
+            blink: entry >> 23 & 1 == 1,
         }
     }
 }
@@ -96,7 +135,7 @@ pub fn fresh() -> Row {
     Row(row)
 }
 
-/// Makes a host operation on the registers.
+/// Makes one of [`operation`] on the registers. Refused as 4, 5 or 6, in this order.
 pub fn operate(row: &mut Row, operation: u32, operand: u32) -> Answer {
     let mut numbers = [0; answer::ANSWER];
     // SAFETY: the call takes any numbers, and is proved to write the row and the answer and
@@ -105,7 +144,9 @@ pub fn operate(row: &mut Row, operation: u32, operand: u32) -> Answer {
     Answer::of(numbers)
 }
 
-/// Runs the display for at most `budget` beats. The points are filled from the first.
+/// Runs the display for at most `budget` beats, up to 65,535. The points that it lights stand in
+/// the first entries of `points`, as many as it answers; the rest stays. A memory has [`MEMORY`]
+/// words, each up to 4,095. Refused as 1, 2, 3 or 4, in this order.
 pub fn run(
     row: &mut Row,
     loan: Loan,

@@ -1,11 +1,14 @@
 //! The names held to their meaning: every row of `../../meaning.table` is made, by names alone, and
 //! every name has a row.
 
-use crate::numbers::{answer, ending, loan, place};
-use crate::{eveglome_fresh, eveglome_operate, fresh, operate, run, Answer, Loan, Row, MEMORY};
+use crate::numbers::{answer, ending, loan, operation, place};
+use crate::{eveglome_fresh, eveglome_operate, fresh, operate, run};
+use crate::{Answer, Loan, Point, Row, MEMORY};
 
 const TABLE: &str = include_str!("../../meaning.table");
 const ROOM: usize = 8;
+/// Every operation has a number below this.
+const OPERATIONS: u32 = 1_024;
 /// More room than a list wants, so that a count with a wrong number stays inside it.
 const SPARE: usize = 64;
 
@@ -34,13 +37,24 @@ fn ending_of(name: &str) -> u32 {
     find(ending::ALL, name).unwrap_or_else(|| panic!("no ending: {name}"))
 }
 
-/// A point of the table, x,y,intensity,blink, as the point list has it.
-fn point_of(text: &str) -> u32 {
+/// An operation of the table: a name, or a number of 01.
+fn operation_of(text: &str) -> u32 {
+    find(operation::ALL, text).unwrap_or_else(|| number(text))
+}
+
+/// A point of the table, x,y,intensity,blink: its entry by 01's sum, and its parts.
+fn point_of(text: &str) -> (u32, Point) {
     let numbers: Vec<u32> = text.split(',').map(number).collect();
     let [x, y, intensity, blink] = numbers[..] else {
         panic!("no point: {text}")
     };
-    x + (y << 10) + (intensity << 20) + (blink << 23)
+    let point = Point {
+        x: x as u16,
+        y: y as u16,
+        intensity: intensity as u8,
+        blink: blink == 1,
+    };
+    (x + (y << 10) + (intensity << 20) + (blink << 23), point)
 }
 
 /// What a call is lent.
@@ -81,7 +95,7 @@ impl Desk {
     }
 
     /// Makes a call and answers what it gave, and what the table says that it gives.
-    fn call(&mut self, clause: &str) -> [(Answer, Vec<u32>); 2] {
+    fn call(&mut self, clause: &str) -> [(Answer, Vec<(u32, Point)>); 2] {
         let (asked, told) = clause
             .split_once(" gives ")
             .expect("a call gives something");
@@ -97,7 +111,8 @@ impl Desk {
             (["run", budget], [ending, beats, points @ ..]) => {
                 let (memory, list) = (&mut self.memory, &mut self.points);
                 let gave = run(&mut self.row, self.loan, memory, list, number(budget));
-                let lit = self.points[..gave.points as usize].to_vec();
+                let lit = self.points[..gave.points as usize].iter();
+                let lit = lit.map(|&entry| (entry, Point::of(entry))).collect();
                 let says = Answer {
                     ending: ending_of(ending),
                     beats: number(beats),
@@ -109,7 +124,7 @@ impl Desk {
             }
             ([operation, operand @ ..], [told]) if operand.len() < 2 => {
                 let operand = operand.first().map_or(0, |operand| number(operand));
-                let gave = operate(&mut self.row, number(operation), operand);
+                let gave = operate(&mut self.row, operation_of(operation), operand);
                 let says = if told.starts_with(|first: char| first.is_ascii_digit()) {
                     Answer {
                         word: number(told),
@@ -163,12 +178,12 @@ fn every_row_of_the_table_is_as_it_says() {
 /// All names but those that say how many places there are.
 fn names() -> impl Iterator<Item = &'static str> {
     let places = [place::ALL, loan::ALL, answer::ALL].concat();
-    let endings = ending::ALL.iter().map(|(name, _)| *name);
+    let others = [ending::ALL, operation::ALL].concat();
     places
         .into_iter()
         .map(|(name, _)| name)
         .filter(|name| !["ROW", "LOAN", "ANSWER"].contains(name))
-        .chain(endings)
+        .chain(others.into_iter().map(|(name, _)| name))
 }
 
 #[test]
@@ -198,6 +213,16 @@ fn every_place_has_a_name() {
         numbers.dedup();
         assert_eq!(numbers, Vec::from_iter(0..=count));
     }
+}
+
+/// Every operation that is not refused as unknown has a name.
+#[test]
+fn every_operation_has_a_name() {
+    let known =
+        |number: &u32| operate(&mut fresh(), *number, 0).ending != ending::UNKNOWN_OPERATION;
+    let mut named: Vec<u32> = operation::ALL.iter().map(|&(_, number)| number).collect();
+    named.sort();
+    assert_eq!(named, Vec::from_iter((0..OPERATIONS).filter(known)));
 }
 
 /// Fresh registers and the answer of a read of them are all 0: as many numbers as are written over

@@ -13,75 +13,96 @@ macro_rules! names {
             $($(#[$limit])* pub const $name: $type = $number;)*
 
             #[cfg(test)]
-            pub const ALL: &[(&str, $type)] = &[$((stringify!($name), $number)),*];
+            pub(crate) const ALL: &[(&str, $type)] = &[$((stringify!($name), $number)),*];
         }
     };
 }
 
 names! {
     /// The places of a row of registers: 25 registers, the kind of motion, and the motion's
-    /// numbers. A number outside the limits that stand here is refusal 4; where none stands, the
-    /// number is 0 or 1.
+    /// numbers.
+    ///
+    /// Each place has its limits here; a number outside them is refusal 4. Refused together, as 4
+    /// too, are only a motion with a state or a mode that it cannot have, and numbers of a motion
+    /// that do not agree, as said with them. Any other registers go together: a display may run
+    /// with a flag on that stops it, and a stopped one may have a stop request.
     place: usize {
-        /// Up to 32,767.
+        /// The display address, up to 32,767.
         ADDRESS = 0,
-        /// Up to 4,095.
+        /// The pushdown pointer, up to 4,095.
         POINTER = 1,
-        /// Up to 8,191.
+        /// Up to 8,191; on the screen, in sector 0, up to 1,023.
         X = 2,
-        /// Up to 8,191.
+        /// Up to 8,191; on the screen, in sector 0, up to 1,023.
         Y = 3,
-        /// 0 control, 1 data.
+        /// 0 control, 1 data; 1 if there is a motion.
         STATE = 4,
-        /// Up to 7.
+        /// Up to 7; with a line 2, 3 or 4, with bytes 1.
         MODE = 5,
         /// Up to 3.
         SCALE = 6,
         /// Up to 7.
         INTENSITY = 7,
+        /// 0 or 1.
         PEN_ENABLE = 8,
+        /// 0 or 1.
         PEN_HOLD = 9,
-        /// LPSI.
+        /// 0 or 1; LPSI.
         PEN_SENSE = 10,
+        /// 0 or 1.
         BLINK = 11,
+        /// 0 or 1.
         IDLE = 12,
-        /// 12 bits, button 0 the leftmost.
+        /// Up to 4,095: 12 bits, button 0 the leftmost.
         BUTTONS = 13,
-        /// The hit flag of bank 1, buttons 0 to 5.
+        /// 0 or 1; the hit flag of bank 1, buttons 0 to 5.
         HIT_1 = 14,
-        /// The hit flag of bank 2, buttons 6 to 11.
+        /// 0 or 1; the hit flag of bank 2, buttons 6 to 11.
         HIT_2 = 15,
+        /// 0 or 1.
         INTERNAL_STOP_FLAG = 16,
+        /// 0 or 1.
         EXTERNAL_STOP_FLAG = 17,
+        /// 0 or 1.
         VERTICAL_EDGE_FLAG = 18,
+        /// 0 or 1.
         HORIZONTAL_EDGE_FLAG = 19,
+        /// 0 or 1.
         PEN_FLAG = 20,
+        /// 0 or 1.
         MANUAL_INTERRUPT_FLAG = 21,
-        /// The 12 initial-condition bits, bit 0 the leftmost.
+        /// Up to 4,095: the 12 initial-condition bits, bit 0 the leftmost.
         CONDITIONS = 22,
+        /// 0 or 1.
         RUNNING = 23,
+        /// 0 or 1.
         STOP_REQUEST = 24,
         /// 0 nothing; 1 a line, only in data state and modes 2, 3, 4; 2 bytes of an increment
         /// word, only in data state and mode 1. What its kind does not use is not looked at, and
         /// written 0.
         MOTION = 25,
+        /// 0 or 1.
         LINE_MINUS_Y = 26,
+        /// 0 or 1.
         LINE_MINUS_X = 27,
-        /// Up to 1,023.
+        /// Up to 1,023; not 0 if the other magnitude is.
         LINE_MAGNITUDE_Y = 28,
-        /// Up to 1,023.
+        /// Up to 1,023; not 0 if the other magnitude is.
         LINE_MAGNITUDE_X = 29,
-        /// 01's n: the larger magnitude, which is at least 1.
+        /// 01's n: just the larger magnitude, so 1 to 1,023.
         LINE_MOVES = 30,
-        /// 01's k: below n.
+        /// 01's k: below n, so up to 1,022.
         LINE_DONE = 31,
+        /// 0 or 1.
         LINE_LIT = 32,
+        /// 0 or 1.
         LINE_ESCAPE = 33,
-        /// 12 bits.
+        /// Up to 4,095. Bits 1 and 2 of each of its bytes say the byte's moves: 00 one, and the
+        /// byte escapes; 01, 10, 11 one, two, three.
         BYTES_WORD = 26,
         /// 0 the left byte, 1 the right one, which only if the left byte does not escape.
         BYTES_SIDE = 27,
-        /// 1 to 3, and no more than that byte asks.
+        /// 1 to 3, and no more than the moves of that byte.
         BYTES_MOVES_LEFT = 28,
         /// How many places there are.
         ROW = 34,
@@ -89,7 +110,7 @@ names! {
 }
 
 names! {
-    /// The places of a loan.
+    /// The places of a loan. [`crate::Loan`] has its limits.
     loan: usize {
         FILE_LOW = 0,
         FILE_HIGH = 1,
@@ -114,22 +135,94 @@ names! {
     /// How a call ended: 0 for an operation that was done, 1 to 6 refused, 10 to 18 how a run
     /// ended.
     ending: u32 {
+        /// An operation was done.
         DONE = 0,
+        /// Memory is not 32,768 long.
         MEMORY_LENGTH = 1,
+        /// Budget above 65,535.
         BUDGET_TOO_LARGE = 2,
+        /// Low above high, or high above 32,768.
         BAD_LOAN = 3,
+        /// Outside the limits that stand in [`crate::place`].
         REGISTERS_OUT_OF_RANGE = 4,
+        /// None of [`crate::operation`].
         UNKNOWN_OPERATION = 5,
+        /// Above what the operation takes.
         OPERAND_OUT_OF_RANGE = 6,
+        /// Not running at entry.
         NOT_RUNNING = 10,
+        /// Still running.
         BUDGET_SPENT = 11,
+        /// Stopped by a word.
         INTERNAL_STOP = 12,
+        /// Stopped by a stop request.
         EXTERNAL_STOP = 13,
+        /// Stopped by a move past an edge.
         EDGE = 14,
+        /// Stopped in data state and mode 5 or 7.
         UNUSABLE_MODE = 15,
+        /// Still running, before a fetch outside both ranges or a write outside the list range.
         OUTSIDE_LOAN = 16,
+        /// Still running, before a word above 4,095.
         WIDE_WORD = 17,
+        /// Still running, before a point that has no room.
         POINTS_FULL = 18,
+    }
+}
+
+names! {
+    /// The host operations.
+    ///
+    /// One that is done answers [`crate::ending::DONE`], and word 0 unless it is a read. Its
+    /// operand is 0 unless one stands here; another number is refusal 6. A number that is no
+    /// operation is refusal 5. The flags that stop are those of internal stop, external stop, both
+    /// edges and the pen. Bits of a word count from 0 at the left.
+    operation: u32 {
+        /// Operand: an address up to 32,767. Runs from it in control state and mode 0; clears the
+        /// flags that stop, stop request, hold and motion.
+        START = 1,
+        /// Operand: the pushdown pointer, up to 4,095.
+        SET_POINTER = 2,
+        /// Operand: the 12 initial-condition bits, up to 4,095.
+        SET_CONDITIONS = 3,
+        /// If stopped, clears the flags that stop, and runs; if the pen flag was on and condition
+        /// bit 2 is 1, pen enable goes off, and hold goes on if bit 3 is 0.
+        RESUME = 4,
+        /// Stops in control state and mode 0; clears the flags that stop, stop request, hold,
+        /// motion and the low 12 bits of the address.
+        CLEAR = 5,
+        /// If running, a stop request: a run ends by it as soon as no motion is left.
+        ASK_TO_STOP = 6,
+        /// The pen sees light: pen sense on; if running and pen enable is on, pen flag on and
+        /// stopped.
+        PEN_LIGHT = 7,
+        /// Operand: a button, up to 11. Complements it and sets the hit flag of its bank.
+        PRESS_BUTTON = 8,
+        /// Operand: 0 for buttons 0 to 5, 1 for 6 to 11. Clears these buttons; the hit flags stay.
+        CLEAR_GROUP = 9,
+        /// Sets the manual interrupt flag, which stops nothing.
+        MANUAL_INTERRUPT_ON = 10,
+        /// Clears the manual interrupt flag.
+        MANUAL_INTERRUPT_OFF = 11,
+        /// Sets idle.
+        IDLE_ON = 12,
+        /// Answers the pushdown pointer.
+        READ_POINTER = 20,
+        /// Answers the low 12 bits of x; the high one is in status 2.
+        READ_X = 21,
+        /// Answers the low 12 bits of y; the high one is in status 2.
+        READ_Y = 22,
+        /// Answers the low 12 bits of the display address; the high three are in status 1.
+        READ_ADDRESS = 23,
+        /// Answers status 1, then clears both hit flags. Bits 0 to 8: pen flag, vertical edge,
+        /// horizontal edge, internal stop, in sector 0, control state, manual interrupt, either
+        /// hit flag, interrupt; 9 to 11: the high bits of the address.
+        READ_STATUS_1 = 24,
+        /// Answers status 2. Bit 0: in a right byte; 1: pen enable; 2, 3: the high bits of y and
+        /// x; 4, 5: scale; 6 to 8: mode; 9 to 11: intensity.
+        READ_STATUS_2 = 25,
+        /// Answers the 12 buttons, button 0 in bit 0, the leftmost.
+        READ_BUTTONS = 26,
     }
 }
 
@@ -161,5 +254,7 @@ mod tests {
         assert_eq!(header("enum eveglome_loan {"), here(super::loan::ALL));
         assert_eq!(header("enum eveglome_answer {"), here(super::answer::ALL));
         assert_eq!(header("enum eveglome_ending {"), here(super::ending::ALL));
+        let operations = header("enum eveglome_operation {");
+        assert_eq!(operations, here(super::operation::ALL));
     }
 }

@@ -1,6 +1,6 @@
 //! The calls, done and refused, through the safe interface.
 
-use eveglome::{ending, fresh, operate, place, run, Answer, Loan, Row, MEMORY};
+use eveglome::{ending, fresh, operate, operation, place, run, Answer, Loan, Row, MEMORY};
 
 /// An ending with no word, no beats and no points, as every refusal is.
 fn just(ending: u32) -> Answer {
@@ -42,7 +42,7 @@ fn fresh_registers_are_all_zero() {
 #[test]
 fn start_sets_the_address_and_runs() {
     let mut row = fresh();
-    assert_eq!(operate(&mut row, 1, 0o200), done(0));
+    assert_eq!(operate(&mut row, operation::START, 0o200), done(0));
     assert_eq!(
         row,
         with_all(&[(place::ADDRESS, 0o200), (place::RUNNING, 1)])
@@ -52,7 +52,8 @@ fn start_sets_the_address_and_runs() {
 #[test]
 fn reading_the_pointer_answers_it() {
     let mut row = with(place::POINTER, 0o1234);
-    assert_eq!(operate(&mut row, 20, 0), done(0o1234));
+    let answer = operate(&mut row, operation::READ_POINTER, 0);
+    assert_eq!(answer, done(0o1234));
     assert_eq!(row, with(place::POINTER, 0o1234));
 }
 
@@ -60,15 +61,25 @@ fn reading_the_pointer_answers_it() {
 #[test]
 fn an_accepted_call_writes_the_whole_row() {
     let mut row = with(place::LINE_MOVES, 7);
-    assert_eq!(operate(&mut row, 12, 0), done(0));
+    assert_eq!(operate(&mut row, operation::IDLE_ON, 0), done(0));
     assert_eq!(row, with(place::IDLE, 1));
 }
 
 #[test]
 fn operations_are_refused_in_the_order_4_5_6() {
     for (row, operation, operand, number) in [
-        (fresh(), 1, 32_768, ending::OPERAND_OUT_OF_RANGE),
-        (fresh(), 8, 12, ending::OPERAND_OUT_OF_RANGE),
+        (
+            fresh(),
+            operation::START,
+            32_768,
+            ending::OPERAND_OUT_OF_RANGE,
+        ),
+        (
+            fresh(),
+            operation::PRESS_BUTTON,
+            12,
+            ending::OPERAND_OUT_OF_RANGE,
+        ),
         (fresh(), 27, 0, ending::UNKNOWN_OPERATION),
         (fresh(), 0, u32::MAX, ending::UNKNOWN_OPERATION),
         (with(place::X, 8_192), 27, 9, ending::REGISTERS_OUT_OF_RANGE),
@@ -123,12 +134,15 @@ fn a_row_that_does_not_fit_is_refused_as_4() {
         (line, &line_flags, 2),
         (bytes, &[BYTES_SIDE], 2),
     ] {
-        assert_eq!(operate(&mut row.clone(), 20, 0), done(0));
+        assert_eq!(
+            operate(&mut row.clone(), operation::READ_POINTER, 0),
+            done(0)
+        );
         for &place in places {
             let mut given = row;
             given.0[place] = number;
             let mut left = given;
-            let answer = operate(&mut left, 20, 0);
+            let answer = operate(&mut left, operation::READ_POINTER, 0);
             assert_eq!(answer, just(ending::REGISTERS_OUT_OF_RANGE));
             assert_eq!(left, given);
         }
@@ -143,7 +157,7 @@ fn a_run_draws_a_point() {
     let before = memory.clone();
     let mut points = [u32::MAX; 4];
     let mut row = fresh();
-    operate(&mut row, 1, 0o200);
+    operate(&mut row, operation::START, 0o200);
     let answer = run(&mut row, Loan::ALL, &mut memory, &mut points, 65_535);
     let ended = Answer {
         ending: ending::INTERNAL_STOP,

@@ -1,5 +1,5 @@
-/* Holds the names of eveglome.h to their meaning: makes every row of meaning.table, whose path it is given, and asks that every name has a row. Writes what
-   is wrong, with the name, and then ends with 1. */
+/* Holds the names and macros of eveglome.h to their meaning: makes every row of meaning.table, whose path it is given, and asks that every name has a row and
+   every operation a name. Writes what is wrong, with the name, and then ends with 1. */
 #include "eveglome.h"
 #include <stdio.h>
 #include <stdlib.h>

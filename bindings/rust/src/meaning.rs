@@ -1,5 +1,5 @@
-//! The names held to their meaning: every row of `../../meaning.table` is made, by names alone, and
-//! every name has a row.
+//! The names held to their meaning: every row of `../../meaning.table` is made with them, every
+//! name has a row, and every operation a name.
 
 use crate::numbers::{answer, ending, loan, operation, place};
 use crate::{eveglome_fresh, eveglome_operate, fresh, operate, run};

@@ -8,6 +8,8 @@ use mathlib.Core.Logic.{_⊎_, inl, inr, ⊎-elim}
 use native.Mathlib.Nat.{le-trans}
 use native.Mathlib.Numerals.{add-one}
 use native.Mathlib.Omega.{arith}
+use mir.Syntax.{w16, w32}
+use mir.Val.{Fits}
 use lib.Dec.{eqb, ltb, leb}
 use lib.ListN.{length}
 use borrow.Author.Tests.{ltb-true, ltb-false, lt-ltb, le-ltb, lt-leb}
@@ -146,6 +148,35 @@ module _ {b : Base} {l : LineMotion} {ps₀ : List ℕ} {from limit placesx plac
   reaches =
       let g = line-bounds (a .far .good .motion .3) in
       (rw (a .owesx) (omega (arith, owed-below done (l .magx) (l .moves), g .0, g .2)), rw (a .owesy) (omega (arith, owed-below done (l .magy) (l .moves), g .1, g .2)))
+
+  -- and fit where the code works them out
+  pub fits-x : Fits w16 (upperx + lowx)
+  fits-x = record { fits = omega (arith, a .far .good .base .x) }
+
+  pub fits-y : Fits w16 (uppery + lowy)
+  fits-y = record { fits = omega (arith, a .far .good .base .y) }
+
+  pub fits-made : Fits w32 (done - l .done)
+  fits-made = record { fits = omega (arith, few) }
+
+  pub made-limited : done - l .done ≤ limit
+  made-limited = omega (arith, a .begun, a .reached, a .bounds .limited)
+
+  pub fits-magnitudes : Fits w32 (l .magx) × Fits w32 (l .magy)
+  fits-magnitudes =
+      let g = line-bounds (a .far .good .motion .3) in
+      (record { fits = omega (arith, g .0, g .2) }, record { fits = omega (arith, g .1, g .2) })
+
+  pub fits-twice : Fits w32 (2 * l .magx) × Fits w32 (2 * l .magy)
+  fits-twice =
+      let g = line-bounds (a .far .good .motion .3) in
+      (record { fits = omega (arith, g .0, g .2) }, record { fits = omega (arith, g .1, g .2) })
+
+  pub fits-reaches : Fits w32 (owedx + 2 * l .magx) × Fits w32 (owedy + 2 * l .magy)
+  fits-reaches = (record { fits = omega (arith, reaches .0) }, record { fits = omega (arith, reaches .1) })
+
+  pub fits-done : done < last → Fits w16 (done + 1)
+  fits-done h = record { fits = omega (arith, few) }
 
   -- behind the loop no move is left, or the line's last one is next
   pub over : last ≤ done → Shows

@@ -35,19 +35,19 @@ abbrev entry : tie.After-distance Inv-loop μ-loop → tie.Start Inv-loop μ-loo
 entry c = c .before .before .before .before .before .before
 
 field-x-requires : tie.Need-field-x-requires Inv-loop μ-loop
-field-x-requires c κs = search needs
+field-x-requires c κs = tt
 
 places-requires : tie.Need-places-requires Inv-loop μ-loop
-places-requires c κs = search needs
+places-requires c κs = tt
 
 field-y-requires : tie.Need-field-y-requires Inv-loop μ-loop
-field-y-requires c κs = search needs
+field-y-requires c κs = tt
 
 places-requires-2 : tie.Need-places-requires-2 Inv-loop μ-loop
-places-requires-2 c κs = search needs
+places-requires-2 c κs = tt
 
 distance-requires : tie.Need-distance-requires Inv-loop μ-loop
-distance-requires c κs = search needs
+distance-requires c κs = tt
 
 rem-lowx : tie.Need-rem-lowx Inv-loop μ-loop
 rem-lowx c = rw (c .before .before .before .before .places .ensures) (pow-pos _)
@@ -68,16 +68,16 @@ loop-holds c =
     (rw (set .before .places2 .ensures, set .before .before .field-y .ensures)) (set .distance .ensures)
 
 byte-move-requires : tie.Need-byte-move-requires Inv-loop μ-loop
-byte-move-requires c κs = search needs
+byte-move-requires c κs = tt
 
 enum-known-after : tie.Need-enum-known-after Inv-loop μ-loop
 enum-known-after c = search needs
 
 wrapped-requires : tie.Need-wrapped-requires Inv-loop μ-loop
-wrapped-requires c κs = search needs
+wrapped-requires c κs = tt
 
 wrapped-requires-2 : tie.Need-wrapped-requires-2 Inv-loop μ-loop
-wrapped-requires-2 c κs = search needs
+wrapped-requires-2 c κs = tt
 
 add-stays : tie.Need-add-stays Inv-loop μ-loop
 add-stays c = record { fits = omega (arith, head (c .before .before .before .before) .loop .inv .far .good .base .x) }
@@ -86,7 +86,7 @@ add-stays-2 : tie.Need-add-stays-2 Inv-loop μ-loop
 add-stays-2 c = record { fits = omega (arith, head (c .before .before .before .before) .loop .inv .far .good .base .y) }
 
 stays-requires : tie.Need-stays-requires Inv-loop μ-loop
-stays-requires c κs = search needs
+stays-requires c κs = tt
 
 same-length : tie.Need-same-length Inv-loop μ-loop
 same-length c = head (c .before .before .before .before .before) .loop .inv .far .size
@@ -115,7 +115,7 @@ add-lit-at-2 c = let w = c .before .before .before .before .before .before in re
 }
 
 lit-at-requires : tie.Need-lit-at-requires Inv-loop μ-loop
-lit-at-requires c κs = search needs
+lit-at-requires c κs = tt
 
 enum-told : tie.Need-enum-told Inv-loop μ-loop
 enum-told c = search needs
@@ -139,7 +139,7 @@ add-stays-4 : tie.Need-add-stays-4 Inv-loop μ-loop
 add-stays-4 c = record { fits = omega (arith, head (tried (c .before .before .before .before)) .loop .inv .far .good .base .y) }
 
 stays-requires-2 : tie.Need-stays-requires-2 Inv-loop μ-loop
-stays-requires-2 c κs = search needs
+stays-requires-2 c κs = tt
 
 same-length-2 : tie.Need-same-length-2 Inv-loop μ-loop
 same-length-2 c = head (tried (c .before .before .before .before .before)) .loop .inv .far .size
@@ -169,7 +169,7 @@ add-stays-6 : tie.Need-add-stays-6 Inv-loop μ-loop
 add-stays-6 c = record { fits = omega (arith, c .before .before .before .loop .inv .far .good .base .y) }
 
 stays-requires-3 : tie.Need-stays-requires-3 Inv-loop μ-loop
-stays-requires-3 c κs = search needs
+stays-requires-3 c κs = tt
 
 same-length-3 : tie.Need-same-length-3 Inv-loop μ-loop
 same-length-3 c = c .before .before .before .before .loop .inv .far .size
@@ -185,7 +185,7 @@ add-stays-8 : tie.Need-add-stays-8 Inv-loop μ-loop
 add-stays-8 c = record { fits = omega (arith, c .before .loop .inv .far .good .base .y) }
 
 stays-requires-4 : tie.Need-stays-requires-4 Inv-loop μ-loop
-stays-requires-4 c κs = search needs
+stays-requires-4 c κs = tt
 
 same-length-4 : tie.Need-same-length-4 Inv-loop μ-loop
 same-length-4 c = c .before .before .loop .inv .far .size

@@ -9,7 +9,7 @@ use lib.Pow.{pow-pos}
 use Rattle.paper.proofs.Axis.{parted-small}
 use Rattle.registers.proofs.InRange.{line-bounds}
 use Rattle.move_sequence.proofs.Plain.{none, one}
-use Rattle.move_sequence.proofs.Line.{Along, start, few, reaches, over, edge, crammed, onwards}
+use Rattle.move_sequence.proofs.Line.{Along, start, fits-x, fits-y, fits-made, made-limited, fits-magnitudes, fits-twice, fits-reaches, fits-done, over, edge, crammed, onwards}
 use Rattle.move_sequence.proofs.line_moves.Statement.{statement}
 use Rattle.move_sequence.proofs.line_moves.Tie as tie
 
@@ -36,19 +36,19 @@ abbrev entry : tie.After-end Inv-loop μ-loop → tie.Start Inv-loop μ-loop
 entry c = c .before .before .before .before .before .before .before
 
 field-x-requires : tie.Need-field-x-requires Inv-loop μ-loop
-field-x-requires c κs = search needs
+field-x-requires c κs = tt
 
 places-requires : tie.Need-places-requires Inv-loop μ-loop
-places-requires c κs = search needs
+places-requires c κs = tt
 
 field-y-requires : tie.Need-field-y-requires Inv-loop μ-loop
-field-y-requires c κs = search needs
+field-y-requires c κs = tt
 
 places-requires-2 : tie.Need-places-requires-2 Inv-loop μ-loop
-places-requires-2 c κs = search needs
+places-requires-2 c κs = tt
 
 distance-requires : tie.Need-distance-requires Inv-loop μ-loop
-distance-requires c κs = search needs
+distance-requires c κs = tt
 
 end-requires : tie.Need-end-requires Inv-loop μ-loop
 end-requires c κs = let g = c .before .before .before .before .before .before .pre .0 .motion .3 in (g .done, line-bounds g .2)
@@ -66,10 +66,10 @@ sub-uppery : tie.Need-sub-uppery Inv-loop μ-loop
 sub-uppery c = mod-le _ _
 
 owed-requires : tie.Need-owed-requires Inv-loop μ-loop
-owed-requires c κs = search needs
+owed-requires c κs = tt
 
 owed-requires-2 : tie.Need-owed-requires-2 Inv-loop μ-loop
-owed-requires-2 c κs = search needs
+owed-requires-2 c κs = tt
 
 cast-twice : tie.Need-cast-twice Inv-loop μ-loop
 cast-twice c = search needs
@@ -86,52 +86,52 @@ loop-holds c =
     (c .before .before .owed .ensures) (c .before .owed2 .ensures)
 
 cast-reachx : tie.Need-cast-reachx Inv-loop μ-loop
-cast-reachx c = search needs
+cast-reachx c = fits-magnitudes (c .before .before .loop .inv) .0
 
 mul-reachx : tie.Need-mul-reachx Inv-loop μ-loop
-mul-reachx c = search needs
+mul-reachx c = fits-twice (c .before .before .loop .inv) .0
 
 add-reachx : tie.Need-add-reachx Inv-loop μ-loop
-add-reachx c = record { fits = omega (arith, reaches (c .before .before .loop .inv) .0) }
+add-reachx c = fits-reaches (c .before .before .loop .inv) .0
 
 cast-reachy : tie.Need-cast-reachy Inv-loop μ-loop
-cast-reachy c = search needs
+cast-reachy c = fits-magnitudes (c .before .before .before .loop .inv) .1
 
 mul-reachy : tie.Need-mul-reachy Inv-loop μ-loop
-mul-reachy c = search needs
+mul-reachy c = fits-twice (c .before .before .before .loop .inv) .1
 
 add-reachy : tie.Need-add-reachy Inv-loop μ-loop
-add-reachy c = record { fits = omega (arith, reaches (c .before .before .before .loop .inv) .1) }
+add-reachy c = fits-reaches (c .before .before .before .loop .inv) .1
 
 pick-u8-requires : tie.Need-pick-u8-requires Inv-loop μ-loop
-pick-u8-requires c κs = search needs
+pick-u8-requires c κs = tt
 
 pick-u8-requires-2 : tie.Need-pick-u8-requires-2 Inv-loop μ-loop
-pick-u8-requires-2 c κs = search needs
+pick-u8-requires-2 c κs = tt
 
 wrapped-requires : tie.Need-wrapped-requires Inv-loop μ-loop
-wrapped-requires c κs = search needs
+wrapped-requires c κs = tt
 
 wrapped-requires-2 : tie.Need-wrapped-requires-2 Inv-loop μ-loop
-wrapped-requires-2 c κs = search needs
+wrapped-requires-2 c κs = tt
 
 add-stays : tie.Need-add-stays Inv-loop μ-loop
-add-stays c = record { fits = omega (arith, head (c .before .before .before) .loop .inv .far .good .base .x) }
+add-stays c = fits-x (head (c .before .before .before) .loop .inv)
 
 add-stays-2 : tie.Need-add-stays-2 Inv-loop μ-loop
-add-stays-2 c = record { fits = omega (arith, head (c .before .before .before) .loop .inv .far .good .base .y) }
+add-stays-2 c = fits-y (head (c .before .before .before) .loop .inv)
 
 sub-stays : tie.Need-sub-stays Inv-loop μ-loop
 sub-stays c = head (c .before .before .before .before) .loop .inv .begun
 
 cast-stays : tie.Need-cast-stays Inv-loop μ-loop
-cast-stays c = search needs
+cast-stays c = fits-made (head (c .before .before .before .before) .loop .inv)
 
 sub-stays-2 : tie.Need-sub-stays-2 Inv-loop μ-loop
-sub-stays-2 c = let a = head (c .before .before .before .before) .loop .inv in omega (arith, a .begun, a .reached, a .bounds .limited)
+sub-stays-2 c = made-limited (head (c .before .before .before .before) .loop .inv)
 
 stays-requires : tie.Need-stays-requires Inv-loop μ-loop
-stays-requires c κs = search needs
+stays-requires c κs = tt
 
 same-length : tie.Need-same-length Inv-loop μ-loop
 same-length c = head (c .before .before .before .before .before) .loop .inv .far .size
@@ -148,13 +148,13 @@ add-lit-at-2 : tie.Need-add-lit-at-2 Inv-loop μ-loop
 add-lit-at-2 c = let w = c .before .before .before .before .before in record { fits = omega (arith, head w .loop .inv .far .good .base .y, parted-small (head w .loop .inv .axisy) _ _ (w .wrapped2 .ensures)) }
 
 lit-at-requires : tie.Need-lit-at-requires Inv-loop μ-loop
-lit-at-requires c κs = search needs
+lit-at-requires c κs = tt
 
 enum-told : tie.Need-enum-told Inv-loop μ-loop
-enum-told c = search needs
+enum-told c = c .match .keys1
 
 enum-known-value : tie.Need-enum-known-value Inv-loop μ-loop
-enum-known-value c = search needs
+enum-known-value c = c .match .keys2
 
 mul-points : tie.Need-mul-points Inv-loop μ-loop
 mul-points c = record {
@@ -180,22 +180,22 @@ add-place c = record {
 }
 
 add-stays-3 : tie.Need-add-stays-3 Inv-loop μ-loop
-add-stays-3 c = record { fits = omega (arith, head (tried (c .before .before .before .before)) .loop .inv .far .good .base .x) }
+add-stays-3 c = fits-x (head (tried (c .before .before .before .before)) .loop .inv)
 
 add-stays-4 : tie.Need-add-stays-4 Inv-loop μ-loop
-add-stays-4 c = record { fits = omega (arith, head (tried (c .before .before .before .before)) .loop .inv .far .good .base .y) }
+add-stays-4 c = fits-y (head (tried (c .before .before .before .before)) .loop .inv)
 
 sub-stays-3 : tie.Need-sub-stays-3 Inv-loop μ-loop
 sub-stays-3 c = head (tried (c .before .before .before .before .before)) .loop .inv .begun
 
 cast-stays-2 : tie.Need-cast-stays-2 Inv-loop μ-loop
-cast-stays-2 c = record { fits = omega (arith, few (head (tried (c .before .before .before .before .before)) .loop .inv)) }
+cast-stays-2 c = fits-made (head (tried (c .before .before .before .before .before)) .loop .inv)
 
 sub-stays-4 : tie.Need-sub-stays-4 Inv-loop μ-loop
-sub-stays-4 c = let a = head (tried (c .before .before .before .before .before)) .loop .inv in omega (arith, a .begun, a .reached, a .bounds .limited)
+sub-stays-4 c = made-limited (head (tried (c .before .before .before .before .before)) .loop .inv)
 
 stays-requires-2 : tie.Need-stays-requires-2 Inv-loop μ-loop
-stays-requires-2 c κs = search needs
+stays-requires-2 c κs = tt
 
 same-length-2 : tie.Need-same-length-2 Inv-loop μ-loop
 same-length-2 c = head (tried (c .before .before .before .before .before .before)) .loop .inv .far .size
@@ -207,20 +207,13 @@ returns-2 c = let lights = c .before .before .before .before .before .before in 
     (c .before .before .before .before .value .given .1) (c .before .before .if2 .left) _ (c .stays2 .ensures)
 
 left-over-requires : tie.Need-left-over-requires Inv-loop μ-loop
-left-over-requires c κs = search needs
+left-over-requires c κs = tt
 
 left-over-requires-2 : tie.Need-left-over-requires-2 Inv-loop μ-loop
-left-over-requires-2 c κs = search needs
+left-over-requires-2 c κs = tt
 
 add-done : tie.Need-add-done Inv-loop μ-loop
-add-done c = let a = head (tried (c .before .before .before)) .loop .inv in record {
-  fits = omega (
-    arith,
-    tried (c .before .before .before) .before .before .before .before .before .before .loop-test .taken,
-    a .bounds .short,
-    line-bounds (a .far .good .motion .3) .2,
-  );
-}
+add-done c = let w = tried (c .before .before .before) in fits-done (head w .loop .inv) (w .before .before .before .before .before .before .loop-test .taken)
 
 loop-less : tie.Need-loop-less Inv-loop μ-loop
 loop-less c = omega (arith, tried (c .before .before .before) .before .before .before .before .before .before .loop-test .taken)
@@ -233,22 +226,22 @@ loop-again c = let lights = c .before .before .before in let w = tried lights in
     (c .before .left-over .ensures) (c .left-over2 .ensures)
 
 add-stays-5 : tie.Need-add-stays-5 Inv-loop μ-loop
-add-stays-5 c = record { fits = omega (arith, c .before .loop .inv .far .good .base .x) }
+add-stays-5 c = fits-x (c .before .loop .inv)
 
 add-stays-6 : tie.Need-add-stays-6 Inv-loop μ-loop
-add-stays-6 c = record { fits = omega (arith, c .before .loop .inv .far .good .base .y) }
+add-stays-6 c = fits-y (c .before .loop .inv)
 
 sub-stays-5 : tie.Need-sub-stays-5 Inv-loop μ-loop
 sub-stays-5 c = c .before .before .loop .inv .begun
 
 cast-stays-3 : tie.Need-cast-stays-3 Inv-loop μ-loop
-cast-stays-3 c = search needs
+cast-stays-3 c = fits-made (c .before .before .loop .inv)
 
 sub-stays-6 : tie.Need-sub-stays-6 Inv-loop μ-loop
-sub-stays-6 c = let a = c .before .before .loop .inv in omega (arith, a .begun, a .reached, a .bounds .limited)
+sub-stays-6 c = made-limited (c .before .before .loop .inv)
 
 stays-requires-3 : tie.Need-stays-requires-3 Inv-loop μ-loop
-stays-requires-3 c κs = search needs
+stays-requires-3 c κs = tt
 
 same-length-3 : tie.Need-same-length-3 Inv-loop μ-loop
 same-length-3 c = c .before .before .before .loop .inv .far .size

@@ -6,6 +6,8 @@ use lib.ListN.{length, drop, length-append, length-drop}
 use lib.Seq.{sets, sets-eq, take-at, drop-append-add, drop-drop}
 use native.Mathlib.Nat.{sub-zero, zero-add, add-zero}
 use native.Mathlib.Omega.{arith}
+use mir.Syntax.{w32}
+use mir.Val.{Fits}
 use Rattle.registers.specs.declared.Registers.{Registers}
 use Rattle.registers.specs.Good.{Good}
 use Rattle.loan.specs.declared.Loan.{Loan}
@@ -83,9 +85,28 @@ start {l} {m₀} {ps₀} {k} {r₀} g =
       whole = rw (sub-zero k, sub-zero, zero-add);
     }
 
+-- of a budget k some is left where fewer beats are made; the a left behind what is made ahead are no more than the budget, and fewer behind a turn
+pub some-left : (k b : ℕ) → b < k → 1 ≤ k - b
+some-left k b h = omega arith
+
+pub left-some : (k a : ℕ) → k - a < k → 0 < a
+left-some k a h = omega arith
+
+pub left-budget : (k a b : ℕ) → a ≤ k - b → a ≤ k
+left-budget k a b h = omega arith
+
+pub left-less : (k a b : ℕ) → k - a < k → b < k → a ≤ k - b → k - (k - a + 1) < k - b
+left-less k a b h t e = omega arith
+
+pub counts : {k b : ℕ} → b < k → Fits w32 k → Fits w32 (b + 1)
+counts h f = record { fits = omega (arith, f .fits) }
+
 module _ {l : Loan} {m₀ ps₀ : List ℕ} {k : ℕ} {r₀ : Registers} {m ps : List ℕ} {r : Registers} {b n : ℕ} where
   pub length-drawn : {f : Run} → Far l m₀ ps₀ k r₀ m ps r b n f → length ps ≡ length ps₀
   length-drawn h = rw (h .drawn, length-append, length-drop) (omega (arith, h .count, h .room))
+
+  pub inside : {f : Run} → Far l m₀ ps₀ k r₀ m ps r b n f → n ≤ length ps
+  inside h = rw (length-drawn h) (h .room)
 
   -- where the run ends here, the call shows it
   pub shows : {e : Ending} → Far l m₀ ps₀ k r₀ m ps r b n (ended r m e) → (t : Ran) → t ≡ record { registers = r; answer = Ended e b n } →

@@ -1,5 +1,4 @@
 -- `control_beats::miscellaneous` meets its promise: each arm is a case of the definition. Assumes nothing.
-use borrow.Author.Needs.{needs}
 use mathlib.Core.Path.{sym, _∙_}
 use borrow.Author.Tests.{ne-eqb}
 use Rattle.words.specs.Words.{pick}
@@ -12,12 +11,12 @@ unfolding miscellaneous pick
 miscellaneous-spec =
     tie.close
     (tie.spec
-    (λ c κs. search needs)
-    (λ c κs. search needs)
-    (λ c κs. search needs)
-    (λ c κs. search needs)
-    (λ c κs. search needs)
-    (λ c κs. search needs)
+    (λ c κs. tt)
+    (λ c κs. tt)
+    (λ c κs. tt)
+    (λ c κs. tt)
+    (λ c κs. tt)
+    (λ c κs. tt)
     (λ c. rw (sym (c .before .before .bits .ensures) ∙ c .before .match .keys1) (c .compare .ensures))
     (λ c. rw (sym (c .before .before .bits .ensures) ∙ c .before .match .keys2) (c .compare2 .ensures))
     (λ c. rw (sym (c .before .before .bits .ensures) ∙ c .before .match .keys3) (c .flag-skip .ensures))

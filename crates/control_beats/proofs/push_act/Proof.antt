@@ -1,5 +1,4 @@
 -- `control_beats::push_act` meets its promise: the parts are the callees'. Assumes nothing.
-use borrow.Author.Needs.{needs}
 use Rattle.control_beats.specs.ControlWords.{pushAct}
 use Rattle.control_beats.proofs.push_act.Statement.{statement}
 use Rattle.control_beats.proofs.push_act.Tie as tie
@@ -16,10 +15,10 @@ pub push-act-spec : {M : Type 1} → statement M
 push-act-spec =
     tie.close
     (tie.spec
-    (λ c κs. search needs)
-    (λ c κs. search needs)
-    (λ c κs. search needs)
-    (λ c κs. search needs)
-    (λ c κs. search needs)
-    (λ c κs. search needs)
+    (λ c κs. tt)
+    (λ c κs. tt)
+    (λ c κs. tt)
+    (λ c κs. tt)
+    (λ c κs. tt)
+    (λ c κs. tt)
     returns)

@@ -171,10 +171,10 @@ obey-spec =
     Inv-loop
     μ-loop
     loop-holds
-    (λ c κs. search needs)
+    (λ c κs. tt)
     (λ c. search needs)
-    (λ c κs. search needs)
-    (λ c κs. search needs)
+    (λ c κs. tt)
+    (λ c κs. tt)
     (λ c. search needs)
     same-length
     returns
@@ -183,7 +183,7 @@ obey-spec =
     returns-2
     (λ c. search needs)
     sub-left
-    (λ c κs. search needs)
+    (λ c κs. tt)
     (λ c. search needs)
     loop-less
     loop-again
@@ -191,9 +191,9 @@ obey-spec =
     same-length-3
     returns-3
     (λ c. search needs)
-    (λ c κs. search needs)
+    (λ c κs. tt)
     sub-left-2
-    (λ c κs. search needs)
+    (λ c κs. tt)
     (λ c. search needs)
     loop-less-2
     loop-again-2

@@ -4,7 +4,6 @@
 use Prim.Native.Nat.{ℕ, _+_, _-_, _<_}
 use mathlib.Core.Path.{_≡_, refl, sym, ap, _∙_}
 use mathlib.Core.List.{List}
-use native.Mathlib.Omega.{arith}
 use lib.ListN.{length}
 use borrow.Author.Needs.{needs}
 use denote.Ref.{now}
@@ -16,7 +15,7 @@ use Rattle.turns.specs.OneTurn.{turn}
 use Rattle.runs.specs.declared.Ahead.{Ahead}
 use Rattle.runs.specs.Ahead.{leaves}
 use Rattle.runs.specs.Runs.{Run, ended, run}
-use Rattle.runs.proofs.Loop.{Far, Within, Beaten, start, length-drawn, shows, spends, fails, rests, fits, goes, stops}
+use Rattle.runs.proofs.Loop.{Far, Within, Beaten, some-left, left-some, left-budget, left-less, counts, start, length-drawn, inside, shows, spends, fails, rests, fits, goes, stops}
 use Rattle.runs.proofs.MadeAhead.{Made, made, goes-on, ends-at}
 use Rattle.runs.proofs.run.Statement.{statement}
 use Rattle.runs.proofs.run.Tie as tie
@@ -98,10 +97,10 @@ module _ (c : tie.Else1 Inv-loop μ-loop) where
   within = record { far = going (c .before); some = c .if1 .left }
 
   counted : Fits w32 (beats from + 1)
-  counted = record { fits = omega (arith, within .some, called from .fits .budget .fits) }
+  counted = counts (within .some) (called from .fits .budget)
 
   less : called from .args .budget - (beats from + 1) < called from .args .budget - head from .loop .beats
-  less = omega (arith, within .some, from .before .before .before .loop-test .taken, met from .left)
+  less = left-less _ _ _ (within .some) (from .before .before .before .loop-test .taken) (met from .left)
 
 -- behind the turn: what the code made is the definition's
 module _ (c : tie.After-turn Inv-loop μ-loop) where
@@ -175,10 +174,10 @@ loop-holds c = start (c .before .before .pre)
 make-ahead-requires : tie.Need-make-ahead-requires Inv-loop μ-loop
 make-ahead-requires c κs =
     let far = c .before .before .before .loop .inv in
-    (far .good, omega (arith, far .room, length-drawn far), omega (arith, c .before .before .loop-test .taken))
+    (far .good, inside far, some-left _ _ (c .before .before .loop-test .taken))
 
 sub-beats : tie.Need-sub-beats Inv-loop μ-loop
-sub-beats c = omega (arith, met (c .before .before .before .before .before) .left)
+sub-beats c = left-budget _ _ _ (met (c .before .before .before .before .before) .left)
 
 same-length : tie.Need-same-length Inv-loop μ-loop
 same-length c = ended-ahead (c .before) .size
@@ -203,11 +202,11 @@ returns-2 c = shows (spends (going (c .before)) (c .if1 .taken)) _ refl
 -- at the turn
 
 sub-turn : tie.Need-sub-turn Inv-loop μ-loop
-sub-turn c = let far = within (c .before) .far in omega (arith, far .room, length-drawn far)
+sub-turn c = inside (within (c .before) .far)
 
 turn-requires : tie.Need-turn-requires Inv-loop μ-loop
 turn-requires c κs =
-    let at = c .before in met (from at) .drawing (at .before .enum-told .given .1) (omega (arith, within at .some))
+    let at = c .before in met (from at) .drawing (at .before .enum-told .given .1) (left-some _ _ (within at .some))
 
 -- where it can't be made
 
@@ -317,15 +316,15 @@ run-spec =
     same-length-6
     returns-3
     (λ c. search needs)
-    (λ c κs. search needs)
-    (λ c κs. search needs)
+    (λ c κs. tt)
+    (λ c κs. tt)
     same-length-7
     same-length-8
     returns-4
     (λ c. search needs)
     put-requires
     add-beats
-    (λ c κs. search needs)
+    (λ c κs. tt)
     (λ c. search needs)
     loop-less
     loop-again
@@ -334,10 +333,10 @@ run-spec =
     same-length-10
     returns-5
     (λ c. search needs)
-    (λ c κs. search needs)
+    (λ c κs. tt)
     put-requires-2
     add-beats-2
-    (λ c κs. search needs)
+    (λ c κs. tt)
     (λ c. search needs)
     loop-less-2
     loop-again-2

@@ -4,7 +4,6 @@ use denote.Ref.{now}
 use Rattle.words.specs.Words.{pick}
 use Rattle.turns.specs.OneTurn.{roomFor}
 use Rattle.turns.proofs.Walk.{walk-command}
-use borrow.Author.Needs.{needs}
 use Rattle.turns.proofs.command_beat.Statement.{statement}
 use Rattle.turns.proofs.command_beat.Tie as tie
 
@@ -13,7 +12,7 @@ unfolding pick
 command-beat-spec =
     tie.close
     (tie.spec
-    (λ c κs. search needs)
-    (λ c κs. search needs)
+    (λ c κs. tt)
+    (λ c κs. tt)
     (λ c. let a = c .before .before .before .args in c .data-beat .ensures ∙ sym (ap (roomFor (a .room)) (walk-command (a .l) (now (a .memory)) (a .b)
     (a .word) (c .before .unheld .ensures) (c .before .before .before .pre)))))

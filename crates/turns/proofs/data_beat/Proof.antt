@@ -6,7 +6,6 @@ use borrow.Author.Tests.{ne-eqb}
 use Rattle.words.specs.Words.{pick}
 use Rattle.touches.specs.Touches.{allowed, walk}
 use Rattle.turns.specs.OneTurn.{dataBeat}
-use borrow.Author.Needs.{needs}
 use Rattle.turns.proofs.data_beat.Statement.{statement}
 use Rattle.turns.proofs.data_beat.Tie as tie
 
@@ -15,13 +14,13 @@ unfolding dataBeat walk allowed pick
 data-beat-spec =
     tie.close
     (tie.spec
-    (λ c κs. search needs)
-    (λ c κs. search needs)
-    (λ c κs. search needs)
-    (λ c κs. search needs)
-    (λ c κs. search needs)
-    (λ c κs. search needs)
-    (λ c κs. search needs)
+    (λ c κs. tt)
+    (λ c κs. tt)
+    (λ c κs. tt)
+    (λ c κs. tt)
+    (λ c κs. tt)
+    (λ c κs. tt)
+    (λ c κs. tt)
     (λ c. rw (ap (λ (n : ℕ). eqb n 1) (c .before .before .match .keys1), ← c .before .increment .ensures) (c .roomed .ensures))
     (λ c. rw (ap (λ (n : ℕ). eqb n 1) (c .before .before .match .keys2), ap (λ (n : ℕ). eqb n 4) (c .before .before .match .keys2), ← c .before .short-vector .ensures) (c .roomed2 .ensures))
     (λ c. rw (ap (λ (n : ℕ). eqb n 1) (c .before .before .match .keys3), ap (λ (n : ℕ). eqb n 4) (c .before .before .match .keys3), ap (λ (n : ℕ). eqb n 6) (c .before .before .match .keys3), ← c .before .graphplot .ensures) (c .roomed3 .ensures))

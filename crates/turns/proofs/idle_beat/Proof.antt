@@ -60,8 +60,8 @@ pub idle-beat-spec : {M : Type 1} → statement M
 idle-beat-spec =
     tie.close
     (tie.spec
-    (λ c κs. search needs)
-    (λ c κs. search needs)
+    (λ c κs. tt)
+    (λ c κs. tt)
     (λ c. search needs)
     command-beat-requires
     (λ c. search needs)

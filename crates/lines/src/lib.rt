@@ -7,7 +7,7 @@ ghost use Rattle.lines.specs.Lines.{isOctal, octals, isLine, digit, four
 // A line has eleven bytes: five octal digits, a space, four octal digits, a newline.
 pub const LINE: usize = 11;
 
-fn is_octal(byte: u8) -> bool
+pub fn is_octal(byte: u8) -> bool
     ensures { λ r. ⌜ r ≡ isOctal byte ⌝ }
 {
     (48 <= byte) & (byte <= 55)
@@ -39,7 +39,7 @@ fn is_line(input: &[u8], at: usize) -> bool
 }
 
 // The digit 0 is 60o, so a digit's value is its last three bits.
-fn digit(byte: u8) -> u16
+pub fn digit(byte: u8) -> u16
     ensures { λ r. ⌜ r ≡ digit byte ⌝ }
 {
     (byte % 8) as u16

@@ -1,4 +1,4 @@
--- Text as a list of bytes, what it is to put it into a lent list, and a number in decimal. Assumes nothing.
+-- Text as a list of bytes, what it is to put it into a lent list, and a number in decimal and in octal. Assumes nothing.
 use Prim.Native.Nat.{ℕ, _+_, _/_, _%_}
 use Prim.Native.Char.{code}
 use Prim.Native.String.{String, [] as none, _∷_ as joined}
@@ -48,3 +48,14 @@ decimal n = figure n 10000 ++ figure n 1000 ++ figure n 100 ++ figure n 10 ++ di
 -- a number and the byte that ends it
 unfoldable pub number : ℕ → ℕ → List ℕ
 number n end = decimal n ++ end ∷ []
+
+-- the digit of this weight in octal, as a byte: 0 is 48
+abbrev pub octalDigit : ℕ → ℕ → ℕ
+octalDigit n weight = 48 + n / weight % 8
+
+-- a word in four octal digits, and an address in five
+unfoldable pub octalWord : ℕ → List ℕ
+octalWord n = octalDigit n 512 ∷ octalDigit n 64 ∷ octalDigit n 8 ∷ octalDigit n 1 ∷ []
+
+unfoldable pub octalAddress : ℕ → List ℕ
+octalAddress n = octalDigit n 4096 ∷ octalWord n

@@ -2,7 +2,7 @@
 ghost use mathlib.Core.Path.{_≡_};
 ghost use mathlib.Core.List.{[], _∷_};
 ghost use Prim.Native.Nat.{_≤_};
-ghost use Rattle.text.specs.Text.{filled, puts, figure, decimal, number};
+ghost use Rattle.text.specs.Text.{filled, puts, figure, decimal, number, octalDigit, octalWord, octalAddress};
 
 pub fn put(byte: u8, text: &mut [u8], place: usize) -> usize
     ensures { λ r. ⌜ filled r (now (text .exit)) ≡ puts (byte ∷ []) (filled place (now (text .entry))) ⌝ }
@@ -56,4 +56,30 @@ pub fn put_number(value: u32, end: u8, text: &mut [u8], place: usize) -> usize
 {
     let at = put_decimal(value, text, place);
     put(end, text, at)
+}
+
+// One octal digit of a number, by its weight.
+fn put_octal_digit(value: u16, weight: u16, text: &mut [u8], place: usize) -> usize
+    requires { ⌜ 1 ≤ weight ⌝ }
+    ensures { λ r. ⌜ filled r (now (text .exit)) ≡ puts (octalDigit value weight ∷ []) (filled place (now (text .entry))) ⌝ }
+{
+    put(48 + (value / weight % 8) as u8, text, place)
+}
+
+// The last four octal digits of a number, all that a word has.
+pub fn put_word(word: u16, text: &mut [u8], place: usize) -> usize
+    ensures { λ r. ⌜ filled r (now (text .exit)) ≡ puts (octalWord word) (filled place (now (text .entry))) ⌝ }
+{
+    let first = put_octal_digit(word, 512, text, place);
+    let second = put_octal_digit(word, 64, text, first);
+    let third = put_octal_digit(word, 8, text, second);
+    put_octal_digit(word, 1, text, third)
+}
+
+// The last five octal digits of a number, all that an address has.
+pub fn put_address(address: u16, text: &mut [u8], place: usize) -> usize
+    ensures { λ r. ⌜ filled r (now (text .exit)) ≡ puts (octalAddress address) (filled place (now (text .entry))) ⌝ }
+{
+    let first = put_octal_digit(address, 4096, text, place);
+    put_word(address, text, first)
 }

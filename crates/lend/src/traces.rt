@@ -1,0 +1,144 @@
+// A run, a line a beat: where it stands, the words it takes up, where it leaves the beam, and its point.
+use crate::Memory;
+use crate::emit;
+use answers::Numbers;
+use arguments::Asked;
+use endings::Ending;
+use libc::STDOUT_FILENO;
+use loan::Loan;
+use registers::Motion;
+use registers::Registers;
+use source::Source;
+
+// A beat is made by a run of one beat, with room for one point or for none.
+struct Made {
+    registers: Registers,
+    told: Numbers,
+}
+
+fn make(r: Registers, l: Loan, memory: &mut Memory, points: &mut [u32]) -> Made {
+    let ran = calls::call(r, l, memory, points, 1);
+    let registers = ran.registers;
+    let answer = ran.answer;
+    Made {
+        registers,
+        told: calls::numbered(answer),
+    }
+}
+
+// Whether a word has a second one: a jump, or data of a point, a vector or a vector continue.
+fn is_long(r: Registers, word: u16) -> bool {
+    let b = r.base;
+    if b.datastate {
+        (b.mode == 0) | (b.mode == 2) | (b.mode == 3)
+    } else {
+        word / 512 == 2
+    }
+}
+
+fn word_at(memory: &Memory, address: u16) -> u16 {
+    let at = (address % 32768) as usize;
+    memory[at]
+}
+
+// The words that a beat takes up at the display address.
+fn put_words(r: Registers, memory: &Memory, line: &mut [u8], place: usize) -> usize {
+    let motion = r.motion;
+    match motion {
+        Motion::Nothing => {
+            let address = r.base.address;
+            let word = word_at(memory, address.number());
+            let first = text::put_word(word, line, place);
+            if is_long(r, word) {
+                let next = address.after(1);
+                let gap = text::put(b' ', line, first);
+                text::put_word(word_at(memory, next.number()), line, gap)
+            } else {
+                first
+            }
+        }
+        Motion::Line(_) => text::put_all(b"a move", line, place),
+        Motion::Bytes(_) => text::put_all(b"a move", line, place),
+    }
+}
+
+// What stands of a line before its beat: the beat may write over its own words.
+fn put_before(beat: u32, r: Registers, memory: &Memory, line: &mut [u8]) -> usize {
+    let named = text::put_all(b"beat ", line, 0);
+    let counted = text::put_decimal(beat, line, named);
+    let at = text::put_all(b" at ", line, counted);
+    let address = r.base.address;
+    let addressed = text::put_address(address.number(), line, at);
+    let taken = text::put_all(b": ", line, addressed);
+    put_words(r, memory, line, taken)
+}
+
+fn put_point(points: &[u32], count: usize, line: &mut [u8], place: usize) -> usize {
+    if (count == 1) & (0 < points.len()) {
+        let named = text::put_all(b", point ", line, place);
+        printout::put_points(points, 1, line, named)
+    } else {
+        text::put_all(b", no point\n", line, place)
+    }
+}
+
+// And what stands behind it.
+fn put_after(r: Registers, points: &[u32], count: usize, line: &mut [u8], place: usize) -> usize {
+    let beam = text::put_all(b", beam ", line, place);
+    let across = text::put_number(r.base.x as u32, b' ', line, beam);
+    let along = text::put_decimal(r.base.y as u32, line, across);
+    put_point(points, count, line, along)
+}
+
+// Makes one beat, and writes its line if it could be made.
+fn write_beat(beat: u32, r: Registers, l: Loan, memory: &mut Memory, points: &mut [u32]) -> Made {
+    let mut line = [0u8; 128];
+    let before = put_before(beat, r, memory, &mut line);
+    let made = make(r, l, memory, points);
+    let told = made.told;
+    if told.beats == 1 {
+        let registers = made.registers;
+        let after = put_after(registers, points, told.points, &mut line, before);
+        emit(STDOUT_FILENO, &line, after);
+    }
+    made
+}
+
+// The same, with room for one point or for none.
+fn write_lit(beat: u32, r: Registers, l: Loan, memory: &mut Memory, room: bool) -> Made {
+    if room {
+        let mut point = [0u32; 1];
+        write_beat(beat, r, l, memory, &mut point)
+    } else {
+        let mut nowhere = [0u32; 0];
+        write_beat(beat, r, l, memory, &mut nowhere)
+    }
+}
+
+// Whether a point was lit, and had room.
+fn lit(told: Numbers) -> u32 {
+    if told.points == 1 { 1 } else { 0 }
+}
+
+// Writes a line for each beat of the run that was asked for.
+pub(crate) fn write(a: Asked, s: Source, memory: &mut Memory) {
+    let l = asked::lent(a, s);
+    let mut r = asked::started(a, s);
+    let mut room = a.limits.room;
+    // Never above 65,535; the remainder spares every caller to say so.
+    let budget = a.limits.budget % 65536;
+    let mut beat = 0;
+    while beat < budget {
+        let made = write_lit(beat + 1, r, l, memory, 0 < room);
+        let told = made.told;
+        if told.ending != endings::ending_number(Ending::BudgetSpent) {
+            return;
+        }
+        let point = lit(told);
+        if point <= room {
+            room -= point;
+        }
+        r = made.registers;
+        beat += 1;
+    }
+}

@@ -1,0 +1,46 @@
+-- An answer of a run in words, for people: its ending with 01's number, the beats, and what it means, with the word that caused it. Assumes nothing.
+use Prim.Native.Nat.{ℕ, _%_}
+use mathlib.Core.Bool.{Bool}
+use mathlib.Core.List.{List, [], _∷_, _++_}
+use lib.Dec.{eqb}
+use Rattle.words.specs.Words.{pick}
+use Rattle.addresses.specs.declared.DisplayAddress.{DisplayAddress}
+use Rattle.registers.specs.declared.Registers.{Registers}
+use Rattle.touches.specs.declared.Why.{Why}
+use Rattle.touches.specs.declared.Why.the-variants.{Fetch, Store, Wide, Full}
+use Rattle.endings.specs.declared.Ending.{Ending}
+use Rattle.endings.specs.declared.Ending.the-variants.{NotRunning, BudgetSpent, InternalStop, ExternalStop, EdgeStop, UnusableMode, Failed}
+use Rattle.endings.specs.Endings.{endingNumber}
+use Rattle.runs.specs.declared.Answer.{Answer}
+use Rattle.runs.specs.declared.Answer.the-variants.{Refused, Ended}
+use Rattle.text.specs.Text.{bytes, decimal, number, octalAddress}
+
+-- which edge flags are on
+unfoldable pub edges : Bool → Bool → List ℕ
+edges vertical horizontal =
+    pick vertical (pick horizontal (bytes "both edges") (bytes "vertical edge")) (bytes "horizontal edge")
+
+-- a touch or a point that could not be made
+unfoldable pub failure : Why → ℕ → List ℕ
+failure (Fetch a) points = bytes "the fetch of " ++ octalAddress (a .0) ++ bytes " is not lent"
+failure (Store a) points = bytes "the write of " ++ octalAddress (a .0) ++ bytes " is not lent"
+failure (Wide a) points = bytes "the word at " ++ octalAddress (a .0) ++ bytes " is above 7777"
+failure Full points = bytes "more than " ++ decimal (points % 4294967296) ++ bytes " points"
+
+unfoldable pub meaning : Ending → ℕ → Registers → List ℕ
+meaning NotRunning points r = bytes "the display was not running"
+meaning BudgetSpent points r = bytes "no stop word was met"
+meaning InternalStop points r = bytes "a stop word"
+meaning ExternalStop points r = bytes "the host asked it to stop"
+meaning EdgeStop points r = bytes "the beam left the screen, " ++ edges (r .base .vertical) (r .base .horizontal)
+meaning UnusableMode points r = bytes "data in mode 5 or 7, which cannot be used"
+meaning (Failed why) points r = failure why points
+
+-- "36 beats: "
+unfoldable pub beatsTold : ℕ → List ℕ
+beatsTold beats = decimal beats ++ pick (eqb beats 1) (bytes " beat: ") (bytes " beats: ")
+
+unfoldable pub sentence : Answer → Registers → List ℕ
+sentence (Refused n) r = bytes "refused " ++ number n 10
+sentence (Ended ending beats points) r =
+    bytes "ending " ++ decimal (endingNumber ending) ++ bytes " after " ++ beatsTold beats ++ meaning ending points r ++ (10 ∷ [])

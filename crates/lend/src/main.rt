@@ -7,6 +7,7 @@ mod traces;
 ghost use mathlib.Core.Path.{_≡_};
 ghost use lib.ListN.{length};
 use arguments::Asked;
+use arguments::Shown;
 use arguments::Waits;
 use endings::Ending;
 use libc::STDOUT_FILENO;
@@ -68,8 +69,7 @@ fn complete(a: Asked) -> bool {
 }
 
 // Writes the answer of a run: its points, its ending in words, and what else was asked for.
-fn answer(a: Asked, s: Source, memory: &mut Memory, before: &Memory, points: &mut [u32]) {
-    let ran = asked::run(a, s, memory, points);
+fn write_answer(shown: Shown, ran: Ran, memory: &Memory, before: &Memory, points: &[u32]) {
     let registers = ran.registers;
     let answer = ran.answer;
     let told = calls::numbered(answer);
@@ -77,12 +77,18 @@ fn answer(a: Asked, s: Source, memory: &mut Memory, before: &Memory, points: &mu
     let mut line = [0u8; 128];
     let length = meanings::put_sentence(answer, registers, &mut line, 0);
     emit(STDOUT_FILENO, &line, length);
-    if a.shown.registers {
+    if shown.registers {
         shown::write_registers(registers);
     }
-    if a.shown.changed {
+    if shown.changed {
         shown::write_changed(memory, before);
     }
+}
+
+fn answer(a: Asked, s: Source, memory: &mut Memory, before: &Memory, points: &mut [u32]) {
+    let ran = asked::run(a, s, memory, points);
+    let shown = a.shown;
+    write_answer(shown, ran, memory, before, points);
 }
 
 // Lends of the point list as much as was asked for.

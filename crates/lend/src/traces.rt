@@ -1,6 +1,7 @@
 // A run, a line a beat: where it stands, the words it takes up, where it leaves the beam, and its point.
 use crate::Memory;
 use crate::emit;
+use addresses::DisplayAddress;
 use answers::Numbers;
 use arguments::Asked;
 use endings::Ending;
@@ -26,51 +27,76 @@ fn make(r: Registers, l: Loan, memory: &mut Memory, points: &mut [u32]) -> Made 
     }
 }
 
+// What a line shows of the registers: where the display stands, whether a move is under way, how a word is read, and the beam.
+struct View {
+    address: DisplayAddress,
+    moving: bool,
+    datastate: bool,
+    mode: u8,
+    x: u16,
+    y: u16,
+}
+
+fn is_moving(motion: Motion) -> bool {
+    match motion {
+        Motion::Nothing => false,
+        Motion::Line(_) => true,
+        Motion::Bytes(_) => true,
+    }
+}
+
+fn seen(r: Registers) -> View {
+    let motion = r.motion;
+    let address = r.base.address;
+    View {
+        address,
+        moving: is_moving(motion),
+        datastate: r.base.datastate,
+        mode: r.base.mode,
+        x: r.base.x,
+        y: r.base.y,
+    }
+}
+
 // Whether a word has a second one: a jump, or data of a point, a vector or a vector continue.
-fn is_long(r: Registers, word: u16) -> bool {
-    let b = r.base;
-    if b.datastate {
-        (b.mode == 0) | (b.mode == 2) | (b.mode == 3)
+fn is_long(v: View, word: u16) -> bool {
+    if v.datastate {
+        (v.mode == 0) | (v.mode == 2) | (v.mode == 3)
     } else {
         word / 512 == 2
     }
 }
 
-fn word_at(memory: &Memory, address: u16) -> u16 {
-    let at = (address % 32768) as usize;
+fn word_at(memory: &Memory, address: DisplayAddress) -> u16 {
+    let at = (address.number() % 32768) as usize;
     memory[at]
 }
 
 // The words that a beat takes up at the display address.
-fn put_words(r: Registers, memory: &Memory, line: &mut [u8], place: usize) -> usize {
-    let motion = r.motion;
-    match motion {
-        Motion::Nothing => {
-            let address = r.base.address;
-            let word = word_at(memory, address.number());
-            let first = text::put_word(word, line, place);
-            if is_long(r, word) {
-                let next = address.after(1);
-                let gap = text::put(b' ', line, first);
-                text::put_word(word_at(memory, next.number()), line, gap)
-            } else {
-                first
-            }
-        }
-        Motion::Line(_) => text::put_all(b"a move", line, place),
-        Motion::Bytes(_) => text::put_all(b"a move", line, place),
+fn put_words(v: View, memory: &Memory, line: &mut [u8], place: usize) -> usize {
+    if v.moving {
+        return text::put_all(b"a move", line, place);
+    }
+    let address = v.address;
+    let word = word_at(memory, address);
+    let first = text::put_word(word, line, place);
+    if is_long(v, word) {
+        let gap = text::put(b' ', line, first);
+        text::put_word(word_at(memory, address.after(1)), line, gap)
+    } else {
+        first
     }
 }
 
 // What stands of a line before its beat: the beat may write over its own words.
-fn put_before(beat: u32, r: Registers, memory: &Memory, line: &mut [u8]) -> usize {
+fn put_before(beat: u32, v: View, memory: &Memory, line: &mut [u8]) -> usize {
     let named = text::put_all(b"beat ", line, 0);
     let counted = text::put_decimal(beat, line, named);
     let at = text::put_all(b" at ", line, counted);
-    let address = r.base.address;
+    let address = v.address;
     let addressed = text::put_address(address.number(), line, at);
     let taken = text::put_all(b": ", line, addressed);
-    put_words(r, memory, line, taken)
+    put_words(v, memory, line, taken)
 }
 
 fn put_point(points: &[u32], count: usize, line: &mut [u8], place: usize) -> usize {
@@ -83,22 +109,22 @@ fn put_point(points: &[u32], count: usize, line: &mut [u8], place: usize) -> usi
 }
 
 // And what stands behind it.
-fn put_after(r: Registers, points: &[u32], count: usize, line: &mut [u8], place: usize) -> usize {
+fn put_after(v: View, points: &[u32], count: usize, line: &mut [u8], place: usize) -> usize {
     let beam = text::put_all(b", beam ", line, place);
-    let across = text::put_number(r.base.x as u32, b' ', line, beam);
-    let along = text::put_decimal(r.base.y as u32, line, across);
+    let across = text::put_number(v.x as u32, b' ', line, beam);
+    let along = text::put_decimal(v.y as u32, line, across);
     put_point(points, count, line, along)
 }
 
 // Makes one beat, and writes its line if it could be made.
 fn write_beat(beat: u32, r: Registers, l: Loan, memory: &mut Memory, points: &mut [u32]) -> Made {
     let mut line = [0u8; 128];
-    let before = put_before(beat, r, memory, &mut line);
+    let before = put_before(beat, seen(r), memory, &mut line);
     let made = make(r, l, memory, points);
     let told = made.told;
     if told.beats == 1 {
         let registers = made.registers;
-        let after = put_after(registers, points, told.points, &mut line, before);
+        let after = put_after(seen(registers), points, told.points, &mut line, before);
         emit(STDOUT_FILENO, &line, after);
     }
     made

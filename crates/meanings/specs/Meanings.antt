@@ -27,20 +27,25 @@ failure (Store a) points = bytes "the write of " ++ octalAddress (a .0) ++ bytes
 failure (Wide a) points = bytes "the word at " ++ octalAddress (a .0) ++ bytes " is above 7777"
 failure Full points = bytes "more than " ++ decimal (points % 4294967296) ++ bytes " points"
 
-unfoldable pub meaning : Ending → ℕ → Registers → List ℕ
-meaning NotRunning points r = bytes "the display was not running"
-meaning BudgetSpent points r = bytes "no stop word was met"
-meaning InternalStop points r = bytes "a stop word"
-meaning ExternalStop points r = bytes "the host asked it to stop"
-meaning EdgeStop points r = bytes "the beam left the screen, " ++ edges (r .base .vertical) (r .base .horizontal)
-meaning UnusableMode points r = bytes "data in mode 5 or 7, which cannot be used"
-meaning (Failed why) points r = failure why points
+-- what an ending means, with the points that were lit and the edge flags that are on
+unfoldable pub meaning : Ending → ℕ → Bool → Bool → List ℕ
+meaning NotRunning points vertical horizontal = bytes "the display was not running"
+meaning BudgetSpent points vertical horizontal = bytes "no stop word was met"
+meaning InternalStop points vertical horizontal = bytes "a stop word"
+meaning ExternalStop points vertical horizontal = bytes "the host asked it to stop"
+meaning EdgeStop points vertical horizontal = bytes "the beam left the screen, " ++ edges vertical horizontal
+meaning UnusableMode points vertical horizontal = bytes "data in mode 5 or 7, which cannot be used"
+meaning (Failed why) points vertical horizontal = failure why points
 
 -- "36 beats: "
 unfoldable pub beatsTold : ℕ → List ℕ
 beatsTold beats = decimal beats ++ pick (eqb beats 1) (bytes " beat: ") (bytes " beats: ")
 
+unfoldable pub endedSentence : Ending → ℕ → ℕ → Bool → Bool → List ℕ
+endedSentence ending beats points vertical horizontal =
+    bytes "ending " ++ decimal (endingNumber ending) ++ bytes " after " ++ beatsTold beats ++ meaning ending points vertical horizontal ++ (10 ∷ [])
+
+-- the answer of a run, and the registers that it left
 unfoldable pub sentence : Answer → Registers → List ℕ
 sentence (Refused n) r = bytes "refused " ++ number n 10
-sentence (Ended ending beats points) r =
-    bytes "ending " ++ decimal (endingNumber ending) ++ bytes " after " ++ beatsTold beats ++ meaning ending points r ++ (10 ∷ [])
+sentence (Ended ending beats points) r = endedSentence ending beats points (r .base .vertical) (r .base .horizontal)

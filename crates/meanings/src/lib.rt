@@ -2,7 +2,7 @@
 ghost use mathlib.Core.Path.{_≡_};
 ghost use mathlib.Core.List.{_++_};
 ghost use Rattle.text.specs.Text.{filled, puts, octalAddress};
-ghost use Rattle.meanings.specs.Meanings.{edges, failure, meaning, beatsTold, sentence};
+ghost use Rattle.meanings.specs.Meanings.{edges, failure, meaning, beatsTold, endedSentence, sentence};
 use addresses::DisplayAddress;
 use endings::Ending;
 use registers::Registers;
@@ -57,22 +57,29 @@ fn put_failure(why: Why, points: usize, text: &mut [u8], place: usize) -> usize
     }
 }
 
-fn put_edge_stop(r: Registers, text: &mut [u8], place: usize) -> usize
-    ensures { λ q. ⌜ filled q (now (text .exit)) ≡ puts (meaning Ending.EdgeStop 0 r) (filled place (now (text .entry))) ⌝ }
+fn put_edge_stop(vertical: bool, horizontal: bool, text: &mut [u8], place: usize) -> usize
+    ensures { λ r. ⌜ filled r (now (text .exit)) ≡ puts (meaning Ending.EdgeStop 0 vertical horizontal) (filled place (now (text .entry))) ⌝ }
 {
     let named = text::put_all(b"the beam left the screen, ", text, place);
-    put_edges(r.base.vertical, r.base.horizontal, text, named)
+    put_edges(vertical, horizontal, text, named)
 }
 
-fn put_meaning(ending: Ending, points: usize, r: Registers, text: &mut [u8], place: usize) -> usize
-    ensures { λ q. ⌜ filled q (now (text .exit)) ≡ puts (meaning ending points r) (filled place (now (text .entry))) ⌝ }
+fn put_meaning(
+    ending: Ending,
+    points: usize,
+    vertical: bool,
+    horizontal: bool,
+    text: &mut [u8],
+    place: usize,
+) -> usize
+    ensures { λ r. ⌜ filled r (now (text .exit)) ≡ puts (meaning ending points vertical horizontal) (filled place (now (text .entry))) ⌝ }
 {
     match ending {
         Ending::NotRunning => text::put_all(b"the display was not running", text, place),
         Ending::BudgetSpent => text::put_all(b"no stop word was met", text, place),
         Ending::InternalStop => text::put_all(b"a stop word", text, place),
         Ending::ExternalStop => text::put_all(b"the host asked it to stop", text, place),
-        Ending::EdgeStop => put_edge_stop(r, text, place),
+        Ending::EdgeStop => put_edge_stop(vertical, horizontal, text, place),
         Ending::UnusableMode => {
             text::put_all(b"data in mode 5 or 7, which cannot be used", text, place)
         }
@@ -95,17 +102,18 @@ fn put_ended(
     ending: Ending,
     beats: u32,
     points: usize,
-    r: Registers,
+    vertical: bool,
+    horizontal: bool,
     text: &mut [u8],
     place: usize,
 ) -> usize
-    ensures { λ q. ⌜ filled q (now (text .exit)) ≡ puts (sentence (Answer.Ended ending beats points) r) (filled place (now (text .entry))) ⌝ }
+    ensures { λ r. ⌜ filled r (now (text .exit)) ≡ puts (endedSentence ending beats points vertical horizontal) (filled place (now (text .entry))) ⌝ }
 {
     let named = text::put_all(b"ending ", text, place);
     let numbered = text::put_decimal(endings::ending_number(ending) as u32, text, named);
     let after = text::put_all(b" after ", text, numbered);
     let counted = put_beats(beats, text, after);
-    let meant = put_meaning(ending, points, r, text, counted);
+    let meant = put_meaning(ending, points, vertical, horizontal, text, counted);
     text::put(b'\n', text, meant)
 }
 
@@ -113,11 +121,15 @@ fn put_ended(
 pub fn put_sentence(answer: Answer, r: Registers, text: &mut [u8], place: usize) -> usize
     ensures { λ q. ⌜ filled q (now (text .exit)) ≡ puts (sentence answer r) (filled place (now (text .entry))) ⌝ }
 {
+    let vertical = r.base.vertical;
+    let horizontal = r.base.horizontal;
     match answer {
         Answer::Refused(number) => {
             let named = text::put_all(b"refused ", text, place);
             text::put_number(number as u32, b'\n', text, named)
         }
-        Answer::Ended(ending, beats, points) => put_ended(ending, beats, points, r, text, place),
+        Answer::Ended(ending, beats, points) => {
+            put_ended(ending, beats, points, vertical, horizontal, text, place)
+        }
     }
 }

@@ -1,13 +1,13 @@
 -- `meanings::put_ended` meets its promise: its parts are put one behind the other. Assumes nothing.
 use Rattle.text.specs.Text.{bytes}
 use Rattle.text.proofs.Puts.{behind}
-use Rattle.meanings.specs.Meanings.{sentence}
+use Rattle.meanings.specs.Meanings.{endedSentence}
 use borrow.Author.Needs.{needs}
 use Rattle.meanings.proofs.put_ended.Statement.{statement}
 use Rattle.meanings.proofs.put_ended.Tie as tie
 
 pub put-ended-spec : {M : Type 1} → statement M
-unfolding sentence bytes
+unfolding endedSentence bytes
 put-ended-spec =
     tie.close
     (tie.spec

@@ -20,8 +20,6 @@ const LONGEST: usize = 262144;
 
 type Memory = [u16; 32768];
 
-type Points = [u32; 65536];
-
 // Writes what a line is filled with.
 fn emit(file: i32, line: &[u8], length: usize) {
     if length <= line.len() {
@@ -85,6 +83,7 @@ fn write_answer(shown: Shown, ran: Ran, memory: &Memory, before: &Memory, points
     }
 }
 
+// Makes the run, and writes its answer.
 fn answer(a: Asked, s: Source, memory: &mut Memory, before: &Memory, points: &mut [u32]) {
     let ran = asked::run(a, s, memory, points);
     let shown = a.shown;

@@ -19,6 +19,10 @@ put-beats-spec =
     (λ c. search needs)
     (λ c κs. search needs)
     (λ c. search needs)
-    (λ c. rw (eq-eqb _ _ (c .before .before .before .before .before .if1 .taken)) (behind _ _ _ (c .before .before .before .before .before .before .before .before .put-decimal .ensures) (c .before .before .put-all .ensures)))
+    (λ c. let last = c .before .before in
+    let test = last .before .before .before in
+    rw (eq-eqb _ _ (test .if1 .taken)) (behind _ _ _ (test .before .before .before .put-decimal .ensures) (last .put-all .ensures)))
     (λ c. search needs)
-    (λ c. rw (ne-eqb _ _ (c .before .before .before .before .before .if1 .left)) (behind _ _ _ (c .before .before .before .before .before .before .before .before .put-decimal .ensures) (c .before .before .put-all2 .ensures))))
+    (λ c. let last = c .before .before in
+    let test = last .before .before .before in
+    rw (ne-eqb _ _ (test .if1 .left)) (behind _ _ _ (test .before .before .before .put-decimal .ensures) (last .put-all2 .ensures))))

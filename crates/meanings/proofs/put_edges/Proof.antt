@@ -18,8 +18,12 @@ put-edges-spec =
     (λ c. search needs)
     (λ c κs. search needs)
     (λ c. search needs)
-    (λ c. rw (c .before .before .before .before .before .before .if1 .taken, c .before .before .before .before .before .if2 .taken) (c .before .before .put-all .ensures))
+    (λ c. let told = c .before .before in
+    let test = told .before .before .before in
+    rw (test .before .if1 .taken, test .if2 .taken) (told .put-all .ensures))
     (λ c. search needs)
-    (λ c. rw (c .before .before .before .before .before .before .if1 .taken, c .before .before .before .before .before .if2 .left) (c .before .before .put-all2 .ensures))
+    (λ c. let told = c .before .before in
+    let test = told .before .before .before in
+    rw (test .before .if1 .taken, test .if2 .left) (told .put-all2 .ensures))
     (λ c. search needs)
     (λ c. rw (c .before .before .before .before .before .if1 .left) (c .before .before .put-all3 .ensures)))

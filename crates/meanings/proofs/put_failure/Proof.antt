@@ -25,10 +25,13 @@ put-failure-spec =
     (λ c. search needs)
     (λ c κs. search needs)
     (λ c. search needs)
-    (λ c. rw (c .before .before .before .before .before .before .before .why .given .1) (c .before .before .put-touch .ensures))
+    (λ c. let told = c .before .before in
+    rw (told .before .before .before .before .before .why .given .1) (told .put-touch .ensures))
     (λ c. search needs)
-    (λ c. rw (c .before .before .before .before .before .before .before .why2 .given .1) (c .before .before .put-touch2 .ensures))
+    (λ c. let told = c .before .before in
+    rw (told .before .before .before .before .before .why2 .given .1) (told .put-touch2 .ensures))
     (λ c. search needs)
-    (λ c. rw (c .before .before .before .before .before .before .before .why3 .given .1) (c .before .before .put-touch3 .ensures))
+    (λ c. let told = c .before .before in
+    rw (told .before .before .before .before .before .why3 .given .1) (told .put-touch3 .ensures))
     (λ c. search needs)
     (λ c. rw (c .before .before .before .before .enum-told .given .1) (c .before .before .put-full .ensures)))

@@ -18,4 +18,6 @@ put-full-spec =
     (λ c. search needs)
     (λ c κs. search needs)
     (λ c. search needs)
-    (λ c. behind _ _ _ (behind _ _ _ (c .before .before .before .before .before .before .before .before .before .before .before .put-all .ensures) (c .before .before .before .before .before .before .before .put-decimal .ensures)) (c .before .before .put-all2 .ensures)))
+    (λ c. let last = c .before .before in
+    let counted = last .before .before .before .before .before in
+    behind _ _ _ (behind _ _ _ (counted .before .before .before .before .put-all .ensures) (counted .put-decimal .ensures)) (last .put-all2 .ensures)))

@@ -19,6 +19,8 @@ put-sentence-spec =
     (λ c. search needs)
     (λ c κs. search needs)
     (λ c. search needs)
-    (λ c. rw (c .before .before .before .before .before .before .before .before .before .before .answer .given .1) (behind _ _ _ (c .before .before .before .before .before .before .put-all .ensures) (c .before .before .put-number .ensures)))
+    (λ c. let last = c .before .before in
+    let named = last .before .before .before .before in
+    rw (named .before .before .before .before .answer .given .1) (behind _ _ _ (named .put-all .ensures) (last .put-number .ensures)))
     (λ c. search needs)
     (λ c. rw (c .before .before .before .before .before .answer2 .given .1) (c .before .before .put-ended .ensures)))

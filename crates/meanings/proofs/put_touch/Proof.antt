@@ -13,4 +13,8 @@ put-touch-spec =
     (λ c κs. search needs)
     (λ c κs. search needs)
     (λ c. search needs)
-    (λ c. behind _ _ _ (behind _ _ _ (c .before .before .before .before .before .before .before .before .before .before .before .put-all .ensures) (rw (c .before .before .before .before .before .before .before .before .number .ensures) at (c .before .before .before .before .before .before .put-address .ensures))) (c .before .before .put-all2 .ensures)))
+    (λ c. let last = c .before .before in
+    let addressed = last .before .before .before .before in
+    let numbered = addressed .before .before in
+    behind _ _ _ (behind _ _ _ (numbered .before .before .before .put-all .ensures) (rw (numbered .number .ensures) at (addressed .put-address .ensures)))
+    (last .put-all2 .ensures)))

@@ -36,6 +36,7 @@ range-spec =
     (λ c. search needs)
     (λ c κs. search needs)
     (λ c κs. search needs)
-    (λ c. by _ (c .before .before .before .before .before .before .hyphen .ensures) (c .before .before .before .before .before .if1 .taken)
-    (c .before .before .before .octal .ensures) (c .before .octal2 .ensures) (c .ordered .ensures))
+    (λ c. let first = c .before .before .before in
+    by _ (first .before .before .before .hyphen .ensures) (first .before .before .if1 .taken) (first .octal .ensures) (c .before .octal2 .ensures)
+    (c .ordered .ensures))
     (λ c. rw (← (c .before .hyphen .ensures), le-ltb _ _ (c .if1 .left))))

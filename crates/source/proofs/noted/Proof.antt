@@ -13,4 +13,5 @@ noted-spec =
     (λ c κs. search needs)
     (λ c. search needs)
     (λ c κs. search needs)
-    (λ c. rw (c .pick-u163 .ensures, c .before .before .before .before .pick-u162 .ensures, c .before .before .before .before .before .before .before .pick-u16 .ensures)))
+    (λ c. let low = c .before .before .before .before in
+    rw (c .pick-u163 .ensures, low .pick-u162 .ensures, low .before .before .before .pick-u16 .ensures)))

@@ -1,4 +1,5 @@
-/* Eveglome for C: a proved simulator of the DEC 338 display. The exact rules are document 01's.
+/* Eveglome for C: a proved simulator of the DEC 338 display. The exact rules are document 01's, with what the requests of document 02
+   change in them; docs/MACHINE.md tells them.
 
    Whatever numbers arrive, a call is refused or done, ends, and does nothing undefined: nothing has to be checked first. A refused call leaves
    registers, memory and points as they were. Only the pointers are the caller's care: none is null, not even of an empty list; each points to as
@@ -74,16 +75,18 @@ enum eveglome_loan {
     EVEGLOME_LOAN = 4                     /* how many places there are */
 };
 
-/* The places of an answer. A refusal has word 0, beats 0, points 0. */
+/* The places of an answer. A refusal has word 0, beats 0, points 0, address 0. */
 enum eveglome_answer {
     EVEGLOME_ENDING = 0,                  /* an eveglome_ending */
     EVEGLOME_WORD = 1,                    /* what a read answers, up to 4,095, else 0 */
     EVEGLOME_BEATS = 2,                   /* the beats that a run made, up to its budget */
     EVEGLOME_POINTS = 3,                  /* how many entries of the point list a run filled, from the first */
-    EVEGLOME_ANSWER = 4                   /* how many places there are */
+    EVEGLOME_FENCE_ADDRESS = 4,           /* with EVEGLOME_FETCH_OUTSIDE_LOAN and EVEGLOME_WRITE_OUTSIDE_LOAN the address of the word that the fence stopped, up
+                                             to 32,767, 0 being word 0; with every other ending 0, which then means nothing */
+    EVEGLOME_ANSWER = 5                   /* how many places there are */
 };
 
-/* How a call ended: 0 for an operation that was done, 1 to 6 refused, 10 to 18 how a run ended. */
+/* How a call ended: 0 for an operation that was done, 1 to 6 refused, 10 to 19 how a run ended. A run ends at the fence with 16 or 19. */
 enum eveglome_ending {
     EVEGLOME_DONE = 0,                    /* an operation was done */
     EVEGLOME_MEMORY_LENGTH = 1,           /* memory is not 32,768 long */
@@ -98,9 +101,10 @@ enum eveglome_ending {
     EVEGLOME_EXTERNAL_STOP = 13,          /* stopped by a stop request */
     EVEGLOME_EDGE = 14,                   /* stopped by a move past an edge */
     EVEGLOME_UNUSABLE_MODE = 15,          /* stopped in data state and mode 5 or 7 */
-    EVEGLOME_OUTSIDE_LOAN = 16,           /* still running, before a fetch outside both ranges or a write outside the list range */
+    EVEGLOME_FETCH_OUTSIDE_LOAN = 16,     /* still running, before a fetch outside both ranges */
     EVEGLOME_WIDE_WORD = 17,              /* still running, before a word above 4,095 */
-    EVEGLOME_POINTS_FULL = 18             /* still running, before a point that has no room */
+    EVEGLOME_POINTS_FULL = 18,            /* still running, before a point that has no room */
+    EVEGLOME_WRITE_OUTSIDE_LOAN = 19      /* still running, before a push's write outside the list range */
 };
 
 /* The host operations. One that is done answers EVEGLOME_DONE, and word 0 unless it is a read. Its operand is 0 unless one stands here; another number is

@@ -24,12 +24,12 @@ static struct name places[] = {
 
 static struct name loans[] = {NAME(FILE_LOW), NAME(FILE_HIGH), NAME(LIST_LOW), NAME(LIST_HIGH), LAST};
 
-static struct name answers[] = {NAME(ENDING), NAME(WORD), NAME(BEATS), NAME(POINTS), LAST};
+static struct name answers[] = {NAME(ENDING), NAME(WORD), NAME(BEATS), NAME(POINTS), NAME(FENCE_ADDRESS), LAST};
 
 static struct name endings[] = {
     NAME(DONE), NAME(MEMORY_LENGTH), NAME(BUDGET_TOO_LARGE), NAME(BAD_LOAN), NAME(REGISTERS_OUT_OF_RANGE), NAME(UNKNOWN_OPERATION),
     NAME(OPERAND_OUT_OF_RANGE), NAME(NOT_RUNNING), NAME(BUDGET_SPENT), NAME(INTERNAL_STOP), NAME(EXTERNAL_STOP), NAME(EDGE), NAME(UNUSABLE_MODE),
-    NAME(OUTSIDE_LOAN), NAME(WIDE_WORD), NAME(POINTS_FULL), LAST};
+    NAME(FETCH_OUTSIDE_LOAN), NAME(WIDE_WORD), NAME(POINTS_FULL), NAME(WRITE_OUTSIDE_LOAN), LAST};
 
 static struct name operations[] = {
     NAME(START), NAME(SET_POINTER), NAME(SET_CONDITIONS), NAME(RESUME), NAME(CLEAR), NAME(ASK_TO_STOP), NAME(PEN_LIGHT), NAME(PRESS_BUTTON),
@@ -136,14 +136,16 @@ static uint32_t operation_of(const char *text) {
 }
 
 static void call(const char *clause, char *parts[], size_t count) {
-    size_t told = 0, ending = EVEGLOME_DONE, word = 0, beats = 0, lit = 0;
+    size_t told = 0, ending = EVEGLOME_DONE, word = 0, beats = 0, lit = 0, address = 0;
     int right = 1;
     while (told < count && strcmp(parts[told], "gives") != 0) told++;
     if (told == 0 || told > 2 || told + 1 >= count) table_fault("no call", clause);
 
     if (strcmp(parts[0], "run") == 0) {
         if (told != 2 || count < 5) table_fault("no run", clause);
-        ending = ending_of(parts[told + 1]);
+        char *behind = parts[told + 1];
+        ending = ending_of(cut(&behind, '@'));
+        address = behind ? number_of(behind) : 0;
         beats = number_of(parts[told + 2]);
         lit = count - (told + 3);
         eveglome_run(registers, loan, memory, memory_length, points, points_length, (uint32_t)number_of(parts[1]), answer);
@@ -157,11 +159,12 @@ static void call(const char *clause, char *parts[], size_t count) {
         eveglome_operate(registers, operation_of(parts[0]), told == 2 ? (uint32_t)number_of(parts[1]) : 0, answer);
     }
 
-    right &= answer[EVEGLOME_ENDING] == ending && answer[EVEGLOME_WORD] == word && answer[EVEGLOME_BEATS] == beats && answer[EVEGLOME_POINTS] == lit;
+    right &= answer[EVEGLOME_ENDING] == ending && answer[EVEGLOME_WORD] == word && answer[EVEGLOME_BEATS] == beats && answer[EVEGLOME_POINTS] == lit &&
+             answer[EVEGLOME_FENCE_ADDRESS] == address;
     if (right) return;
-    printf("line %u, %s: \"%s\", but it gave ending %lu, word %lo octal, beats %lu, points %lu", line, shown, clause,
-           (unsigned long)answer[EVEGLOME_ENDING], (unsigned long)answer[EVEGLOME_WORD], (unsigned long)answer[EVEGLOME_BEATS],
-           (unsigned long)answer[EVEGLOME_POINTS]);
+    printf("line %u, %s: \"%s\", but it gave ending %lu, address %lo octal, word %lo octal, beats %lu, points %lu", line, shown, clause,
+           (unsigned long)answer[EVEGLOME_ENDING], (unsigned long)answer[EVEGLOME_FENCE_ADDRESS], (unsigned long)answer[EVEGLOME_WORD],
+           (unsigned long)answer[EVEGLOME_BEATS], (unsigned long)answer[EVEGLOME_POINTS]);
     for (size_t i = 0; i < answer[EVEGLOME_POINTS] && i < ROOM; i++)
         printf(" %u,%u,%u,%u", EVEGLOME_POINT_X(points[i]), EVEGLOME_POINT_Y(points[i]), EVEGLOME_POINT_INTENSITY(points[i]),
                EVEGLOME_POINT_BLINK(points[i]));

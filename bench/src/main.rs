@@ -164,9 +164,9 @@ fn rounds(lesson: &Lesson) -> (u32, Vec<Times>) {
         for pair in desks.windows(2) {
             pair[0].assert_same(&pair[1]);
         }
-        let [ending, beats, lit] = desks[0].answer;
-        let spent = [Ending::BudgetSpent.number(), BEATS];
-        assert_eq!([ending, beats], spent, "{}", lesson.name);
+        let [ending, beats, lit, address] = desks[0].answer;
+        let spent = [Ending::BudgetSpent.number(), BEATS, 0];
+        assert_eq!([ending, beats, address], spent, "{}", lesson.name);
         points = lit;
     }
     for times in &mut all {

@@ -63,8 +63,8 @@ pub struct Desk {
     row: eveglome::Row,
     memory: Vec<u16>,
     points: Vec<u32>,
-    /// Ending, beats and points.
-    pub answer: [u32; 3],
+    /// Ending, beats, points and the address that the ending tells.
+    pub answer: [u32; 4],
 }
 
 impl Desk {
@@ -76,7 +76,7 @@ impl Desk {
             row: row_of(&lesson.registers),
             memory: lesson.memory.clone(),
             points: vec![0; ROOM],
-            answer: [0; 3],
+            answer: [0; 4],
         }
     }
 
@@ -89,7 +89,7 @@ impl Desk {
         }
         self.memory.copy_from_slice(&lesson.memory);
         self.points.fill(0);
-        self.answer = [0; 3];
+        self.answer = [0; 4];
     }
 
     /// The run: no more than the call of the side.
@@ -106,13 +106,18 @@ impl Desk {
                     list_high: loan.list.high,
                 };
                 let answer = eveglome::run(&mut self.row, loan, memory, points, BEATS);
-                self.answer = [answer.ending, answer.beats, answer.points];
+                self.answer = [answer.ending, answer.beats, answer.points, answer.address];
                 return;
             }
             Side::Second => second::run(&mut self.registers, memory, loan, BEATS, points),
             Side::Tuned => tuned::run(&mut self.registers, memory, loan, BEATS, points),
         };
-        self.answer = [answer.ending.number(), answer.beats, answer.points];
+        self.answer = [
+            answer.ending.number(),
+            answer.beats,
+            answer.points,
+            u32::from(answer.ending.address()),
+        ];
     }
 
     /// The numbers of the registers that the run left, up to the last that is not 0: how many

@@ -390,11 +390,15 @@ mod tests {
             file: range(0, 32_768),
             list: range(0o400, 0o401),
         };
-        assert_eq!(bench.run(1), ended(Ending::OutsideLoan, 0, 0));
+        assert_eq!(bench.run(1), ended(Ending::WriteOutsideLoan(0o401), 0, 0));
         assert_eq!(bench.memory[0o400], 7);
         assert_eq!(bench.registers, before);
+        // The second write is lent and the first not.
         bench.loan.list = range(0o401, 0o402);
-        assert_eq!(bench.run(1), ended(Ending::OutsideLoan, 0, 0));
+        assert_eq!(bench.run(1), ended(Ending::WriteOutsideLoan(0o400), 0, 0));
+        // With neither lent the first is told.
+        bench.loan.list = range(0, 0o400);
+        assert_eq!(bench.run(1), ended(Ending::WriteOutsideLoan(0o400), 0, 0));
         bench.loan.list = range(0o400, 0o402);
         assert_eq!(bench.run(1), ended(Ending::BudgetSpent, 1, 0));
         // What stood there was too wide to fetch: a write does not look.
@@ -402,6 +406,41 @@ mod tests {
         bench.memory[0] = 0o177777;
         assert_eq!(bench.run(1), ended(Ending::BudgetSpent, 1, 0));
         assert_eq!(bench.memory[0], 0);
+    }
+
+    #[test]
+    fn a_push_fenced_at_the_end_of_the_list_tells_which_write() {
+        let mut bench = Bench::at(0o1000, &[0o2010, 0o0300]);
+        bench.registers.pushdown_pointer = 0o7777;
+        let before = bench.registers;
+        bench.loan = Loan {
+            file: range(0, 32_768),
+            list: range(0, 0o7777),
+        };
+        assert_eq!(bench.run(1), ended(Ending::WriteOutsideLoan(0o7777), 0, 0));
+        // Behind the pointer 7777o lies word 0, and not word 10000o, which is lent.
+        bench.loan.list = range(1, 0o20000);
+        assert_eq!(bench.run(1), ended(Ending::WriteOutsideLoan(0), 0, 0));
+        assert_eq!(bench.memory[0o7777], 0);
+        assert_eq!(bench.registers, before);
+    }
+
+    #[test]
+    fn a_push_tests_all_its_fetches_before_its_writes() {
+        // The second word is not lent, and neither is the list: the fetch is told.
+        let mut bench = Bench::at(0o1000, &[0o2010, 0o0300]);
+        bench.registers.pushdown_pointer = 0o400;
+        bench.loan = Loan {
+            file: range(0o1000, 0o1001),
+            list: range(0, 0),
+        };
+        assert_eq!(bench.run(1), ended(Ending::FetchOutsideLoan(0o1001), 0, 0));
+        // It is lent and too wide: the width comes before the writes too.
+        bench.loan.file = range(0o1000, 0o1002);
+        bench.memory[0o1001] = 0o10000;
+        assert_eq!(bench.run(1), ended(Ending::WordTooWide, 0, 0));
+        bench.memory[0o1001] = 0o0300;
+        assert_eq!(bench.run(1), ended(Ending::WriteOutsideLoan(0o400), 0, 0));
     }
 
     #[test]
@@ -487,13 +526,32 @@ mod tests {
         };
         assert_eq!(bench.run(1), ended(Ending::WordTooWide, 0, 0));
         bench.put(0o400, &[0]);
-        assert_eq!(bench.run(1), ended(Ending::OutsideLoan, 0, 0));
+        assert_eq!(bench.run(1), ended(Ending::FetchOutsideLoan(0o401), 0, 0));
+        // The second cell is lent and the first not.
+        bench.loan.list = range(0o401, 0o402);
+        assert_eq!(bench.run(1), ended(Ending::FetchOutsideLoan(0o400), 0, 0));
         // The list may be read through the file range.
         bench.loan = Loan {
             file: range(0, 0o2000),
             list: range(0, 0),
         };
         assert_eq!(bench.run(1), ended(Ending::BudgetSpent, 1, 0));
+    }
+
+    #[test]
+    fn a_pop_fenced_at_the_end_of_the_list_tells_which_fetch() {
+        let mut bench = Bench::at(0o1000, &[0o3000]);
+        bench.registers.pushdown_pointer = 1;
+        bench.loan = Loan {
+            file: range(0, 0o2000),
+            list: range(0, 0),
+        };
+        assert_eq!(bench.run(1), ended(Ending::FetchOutsideLoan(0o7777), 0, 0));
+        bench.loan = Loan {
+            file: range(1, 0o2000),
+            list: range(0o7777, 0o10000),
+        };
+        assert_eq!(bench.run(1), ended(Ending::FetchOutsideLoan(0), 0, 0));
     }
 
     #[test]

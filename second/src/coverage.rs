@@ -7,7 +7,9 @@ use crate::data_words::{x_dimension, y_dimension};
 use crate::generate::{next_case, Chance};
 use crate::host_operations::operate;
 use crate::refusals_and_endings::{Answer, Ending, Loan, MEMORY_LENGTH};
-use crate::registers::{address_after, pointer_after, Motion, Registers, Side, State};
+use crate::registers::{
+    address_after, pointer_after, pointer_before, Motion, Registers, Side, State,
+};
 use crate::replay::{Case, RunCase};
 use crate::turn::run;
 use crate::words::{bit, field, GREATEST_WORD};
@@ -50,17 +52,19 @@ impl Coverage {
 
     /// The names of the rows that were never reached, apart from those that should not be.
     pub fn never_reached(&self) -> Vec<&str> {
-        let missing = self
-            .rows
-            .iter()
-            .filter(|row| row.1 == 0 && row.0 != STEPWISE_DIFFERS);
-        missing.map(|row| row.0.as_str()).collect()
+        self.names_where(|name, count| count == 0 && !SHOULD_BE_0.contains(&name))
     }
 
-    pub fn stepwise_differs(&self) -> bool {
-        self.rows
-            .iter()
-            .any(|row| row.0 == STEPWISE_DIFFERS && row.1 > 0)
+    /// The names of the rows that were reached and should not be.
+    pub fn wrongly_reached(&self) -> Vec<&str> {
+        self.names_where(|name, count| count > 0 && SHOULD_BE_0.contains(&name))
+    }
+
+    fn names_where(&self, wanted: impl Fn(&str, u64) -> bool) -> Vec<&str> {
+        let rows = self.rows.iter().map(|row| (row.0.as_str(), row.1));
+        rows.filter(|&(name, count)| wanted(name, count))
+            .map(|(name, _)| name)
+            .collect()
     }
 }
 
@@ -74,6 +78,8 @@ impl fmt::Display for Coverage {
 }
 
 const STEPWISE_DIFFERS: &str = "run differs from its beats one by one (should be 0)";
+const TOLD_DIFFERS: &str = "fence tells another touch than the first barred one (should be 0)";
+const SHOULD_BE_0: [&str; 2] = [STEPWISE_DIFFERS, TOLD_DIFFERS];
 
 const OPERATIONS: [u32; 19] = [
     1, 2, 3, 4, 5, 6, 7, 8, 9, 10, 11, 12, 20, 21, 22, 23, 24, 25, 26,
@@ -81,6 +87,16 @@ const OPERATIONS: [u32; 19] = [
 
 const CONTROL_WORDS: [&str; 13] = [
     "0", "1", "2 jump", "2 push", "3", "4", "5", "60", "61", "62", "63", "64-67", "7",
+];
+
+/// The touches of command beats, each with the last address that it has before it wraps to 0.
+const TOUCHES: [(&str, u16); 6] = [
+    ("first fetch", 0o77777),
+    ("second word", 0o77777),
+    ("pop's first cell", 0o7777),
+    ("pop's second cell", 0o7777),
+    ("push's first write", 0o7777),
+    ("push's second write", 0o7777),
 ];
 
 const LOANS: [&str; 6] = [
@@ -100,7 +116,7 @@ fn row_names() -> Vec<String> {
     for refusal in 1..=4 {
         names.push(format!("run refused {refusal}"));
     }
-    for ending in 10..=18 {
+    for ending in 10..=19 {
         names.push(format!("ending {ending}"));
     }
     names.push("beats".into());
@@ -150,15 +166,18 @@ fn row_names() -> Vec<String> {
     names.push("pop entering data state".into());
     names.push("display address counted over 77777o".into());
     names.push("second word at 0 after 77777o".into());
-    for kind in [
-        "first fetch",
-        "second word",
-        "pop's list",
-        "push's first write",
-        "push's second write",
-    ] {
+    for (kind, last) in TOUCHES {
         names.push(format!("fenced at {kind}"));
+        names.push(format!("fenced at {kind}, word {last:o}o"));
+        names.push(format!("fenced at {kind}, word 0o"));
     }
+    for kind in ["pop's first cell", "push's first write"] {
+        names.push(format!("fenced at {kind}, the second lent"));
+        names.push(format!("fenced at {kind}, the second not lent"));
+    }
+    names.push("fenced at second word, a push's writes not lent".into());
+    names.push("fenced at a fetch of a word above 4,095".into());
+    names.push("fenced at a write into the file range".into());
     names.push("word above 4,095 at the display address".into());
     names.push("word above 4,095 at a later fetch".into());
     for kind in LOANS {
@@ -190,7 +209,7 @@ fn row_names() -> Vec<String> {
     ] {
         names.push(what.into());
     }
-    names.push(STEPWISE_DIFFERS.into());
+    names.extend(SHOULD_BE_0.map(String::from));
     names
 }
 
@@ -522,7 +541,7 @@ fn edges_reached(coverage: &mut Coverage, before: &Registers, after: &Registers,
     }
 }
 
-/// Which touch ended the run with 16 or 17. The report may look at all words.
+/// Which touch ended the run with 16, 17 or 19. The report may look at all words.
 fn barred_touch_reached(
     coverage: &mut Coverage,
     loan: Loan,
@@ -530,9 +549,7 @@ fn barred_touch_reached(
     memory: &[u16],
     ending: Ending,
 ) {
-    let first_place = before.display_address;
-    let second_place = address_after(first_place, 1);
-    let first = peek(memory, first_place);
+    let first = peek(memory, before.display_address);
     match ending {
         Ending::WordTooWide => {
             let name = if first > GREATEST_WORD {
@@ -542,25 +559,105 @@ fn barred_touch_reached(
             };
             coverage.count(name);
         }
-        Ending::OutsideLoan => {
-            let control = before.state == State::Control;
-            let name = if !loan.allows_fetch(first_place) {
-                "fenced at first fetch"
-            } else if control && field(first, 0, 2) == 3 {
-                "fenced at pop's list"
-            } else if !loan.allows_fetch(second_place) {
-                "fenced at second word"
-            } else if !loan.allows_write(before.pushdown_pointer) {
-                "fenced at push's first write"
-            } else if !loan.allows_write(pointer_after(before.pushdown_pointer, 1)) {
-                "fenced at push's second write"
-            } else {
-                ""
-            };
-            coverage.count(name);
+        Ending::FetchOutsideLoan(_) | Ending::WriteOutsideLoan(_) => {
+            let barred: Vec<Touch> = touches(before, first)
+                .into_iter()
+                .filter(|touch| touch.told(loan).is_some())
+                .collect();
+            fence_reached(coverage, loan, memory, &barred, ending);
         }
         _ => {}
     }
+}
+
+/// One touch of a command beat.
+struct Touch {
+    kind: &'static str,
+    address: u16,
+    writes: bool,
+}
+
+impl Touch {
+    fn fetch(kind: &'static str, address: u16) -> Touch {
+        Touch {
+            kind,
+            address,
+            writes: false,
+        }
+    }
+
+    fn write(kind: &'static str, address: u16) -> Touch {
+        Touch {
+            writes: true,
+            ..Touch::fetch(kind, address)
+        }
+    }
+
+    /// The ending that the loan gives this touch, if it does not allow it.
+    fn told(&self, loan: Loan) -> Option<Ending> {
+        if self.writes {
+            (!loan.allows_write(self.address)).then_some(Ending::WriteOutsideLoan(self.address))
+        } else {
+            (!loan.allows_fetch(self.address)).then_some(Ending::FetchOutsideLoan(self.address))
+        }
+    }
+}
+
+/// 01, one turn of a run: the touches of a command beat in their order, by its first word.
+fn touches(before: &Registers, first: u16) -> Vec<Touch> {
+    let pointer = before.pushdown_pointer;
+    let second_word = Touch::fetch("second word", address_after(before.display_address, 1));
+    let mut touches = vec![Touch::fetch("first fetch", before.display_address)];
+    match (before.state, field(first, 0, 2)) {
+        (State::Control, 2) => {
+            touches.push(second_word);
+            if bit(first, 8) {
+                let next = pointer_after(pointer, 1);
+                touches.push(Touch::write("push's first write", pointer));
+                touches.push(Touch::write("push's second write", next));
+            }
+        }
+        (State::Control, 3) => {
+            let cells = [pointer_before(pointer, 2), pointer_before(pointer, 1)];
+            touches.push(Touch::fetch("pop's first cell", cells[0]));
+            touches.push(Touch::fetch("pop's second cell", cells[1]));
+        }
+        (State::Data, _) if matches!(before.mode, 0 | 2 | 3) => touches.push(second_word),
+        _ => {}
+    }
+    touches
+}
+
+/// The touches of a beat that the loan does not allow, and the ending that tells of them.
+fn fence_reached(
+    coverage: &mut Coverage,
+    loan: Loan,
+    memory: &[u16],
+    barred: &[Touch],
+    ending: Ending,
+) {
+    let [touch, later @ ..] = barred else {
+        coverage.count(TOLD_DIFFERS);
+        return;
+    };
+    coverage.count_if(touch.told(loan) != Some(ending), TOLD_DIFFERS);
+    let (kind, address) = (touch.kind, touch.address);
+    coverage.count(&format!("fenced at {kind}"));
+    coverage.count(&format!("fenced at {kind}, word {address:o}o"));
+    let second = if later.is_empty() { "lent" } else { "not lent" };
+    coverage.count(&format!("fenced at {kind}, the second {second}"));
+    coverage.count_if(
+        kind == "second word" && !later.is_empty(),
+        "fenced at second word, a push's writes not lent",
+    );
+    coverage.count_if(
+        !touch.writes && peek(memory, address) > GREATEST_WORD,
+        "fenced at a fetch of a word above 4,095",
+    );
+    coverage.count_if(
+        touch.writes && loan.allows_fetch(address),
+        "fenced at a write into the file range",
+    );
 }
 
 #[cfg(test)]
@@ -571,6 +668,6 @@ mod tests {
     fn a_few_thousand_cases_reach_every_row() {
         let coverage = coverage(1, 6_000);
         assert_eq!(coverage.never_reached(), Vec::<&str>::new());
-        assert!(!coverage.stepwise_differs());
+        assert_eq!(coverage.wrongly_reached(), Vec::<&str>::new());
     }
 }

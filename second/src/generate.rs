@@ -1,4 +1,5 @@
-//! A seeded generator of cases: half plausible display files, half wild, biased to the corners.
+//! A seeded generator of cases: plausible display files, wild ones and ones at the fence, biased to
+//! the corners.
 
 use crate::data_words::{x_dimension, y_dimension};
 use crate::refusals_and_endings::{Loan, LoanRange, MEMORY_LENGTH};
@@ -66,8 +67,9 @@ impl Chance {
 pub fn next_case(chance: &mut Chance) -> Case {
     match chance.between(0, 99) {
         0..=21 => operation_case(chance),
-        22..=60 => Case::Run(structured_run(chance)),
-        _ => Case::Run(wild_run(chance)),
+        22..=56 => Case::Run(structured_run(chance)),
+        57..=89 => Case::Run(wild_run(chance)),
+        _ => Case::Run(fenced_run(chance)),
     }
 }
 
@@ -455,21 +457,48 @@ fn range_of(low: u16, words: u16) -> LoanRange {
     range(low, low.saturating_add(words).min(32_768))
 }
 
+/// A range with an end next to a word: the word is just outside, or the first or second from that
+/// end. The other end is a few words off or as far as it can be.
+fn range_beside(chance: &mut Chance, word: u16) -> LoanRange {
+    let inside = chance.between(0, 2);
+    let words = if chance.coin() {
+        chance.between(1, 4)
+    } else {
+        32_768
+    };
+    if chance.coin() {
+        range_of((word + 1).saturating_sub(inside), words)
+    } else {
+        let high = (word + inside).min(32_768);
+        range(high.saturating_sub(words), high)
+    }
+}
+
 /// Loans of every kind: the file given as the place and length where the words are.
 fn loan(chance: &mut Chance, file_low: u16, file_words: u16, pushdown_pointer: u16) -> Loan {
     let list_low = pushdown_pointer.saturating_sub(chance.between(0, 3));
     let list_words = chance.between(1, 12);
     match chance.between(0, 99) {
         // All of memory, in both ranges or in one.
-        0..=34 => Loan::all(),
-        35..=38 => Loan {
+        0..=29 => Loan::all(),
+        30..=33 => Loan {
             file: range(0, 32_768),
             list: range(0, 0),
         },
-        39..=42 => Loan {
+        34..=37 => Loan {
             file: range(0, 0),
             list: range(0, 32_768),
         },
+        // Both end next to a word that a beat may touch: one of the file, and one of the four
+        // around the pointer, two of which a pop fetches and two of which a push writes.
+        38..=42 => {
+            let word = address_after(file_low, chance.between(0, file_words));
+            let cell = pointer_after(pointer_before(pushdown_pointer, 2), chance.between(0, 3));
+            Loan {
+                file: range_beside(chance, word),
+                list: range_beside(chance, cell),
+            }
+        }
         // The words and the whole of field 0, where the list lies.
         43..=50 => Loan {
             file: range_of(file_low, file_words),
@@ -881,6 +910,70 @@ fn wild_run(chance: &mut Chance) -> RunCase {
     }
 }
 
+// ---------------------------------------------------------------- runs at the fence
+
+/// A command that mostly touches the list, often at the end of memory or of the list, with a few
+/// words before it, and a loan that ends next to what it touches.
+fn fenced_run(chance: &mut Chance) -> RunCase {
+    let mut registers = registers_in_range(chance);
+    registers.state = State::Control;
+    registers.motion = Motion::Nothing;
+    registers.running = true;
+    registers.stop_request = false;
+    let words_before = chance.between(0, 2);
+    if chance.percent(35) {
+        registers.display_address = chance.between(0o77776, 0o77777) - words_before;
+    }
+    if chance.coin() {
+        registers.pushdown_pointer = chance.pick(&[0o7776, 0o7777, 0, 1, 2]);
+    }
+    let mut file = File::new(registers.display_address);
+    for _ in 0..words_before {
+        file.push(chance.between(0, 0o777));
+    }
+    let command = file.next_address();
+    let mut first_cell = registers.pushdown_pointer;
+    match chance.between(0, 9) {
+        0..=3 => {
+            file.push(0o2010 | chance.between(0, 0o777));
+            file.push(chance.good_word());
+        }
+        4..=7 => {
+            file.push(0o3000 | chance.between(0, 0o777));
+            first_cell = pointer_before(first_cell, 2);
+        }
+        8 => {
+            file.push(0o2000 | chance.between(0, 7));
+            file.push(chance.good_word());
+        }
+        _ => write_data(chance, &mut file),
+    }
+    let word = address_after(command, chance.between(0, 2));
+    let cell = pointer_after(first_cell, chance.between(0, 1));
+    RunCase {
+        registers,
+        budget: budget(chance),
+        loan: Loan {
+            file: match chance.between(0, 9) {
+                // All words, so that the command comes to its list.
+                0..=4 => range_of(file.first, file.words.len() as u16),
+                // The first word of the command is the last that is lent.
+                5..=6 => range_of(file.first, words_before + 1),
+                _ => range_beside(chance, word),
+            },
+            list: if chance.coin() {
+                range_of(cell, 1)
+            } else {
+                range_beside(chance, cell)
+            },
+        },
+        room: room(chance),
+        memory_length: MEMORY_LENGTH,
+        default: default_word(chance),
+        pairs: file.pairs(),
+    }
+}
+
 #[cfg(test)]
 mod tests {
     use super::*;
@@ -1036,7 +1129,13 @@ mod tests {
             if fenced.answer.ending.number() < 10 {
                 continue;
             }
-            let at_fence = fenced.answer.ending == Ending::OutsideLoan;
+            let barred = match fenced.answer.ending {
+                Ending::FetchOutsideLoan(address) => !case.loan.allows_fetch(address),
+                Ending::WriteOutsideLoan(address) => !case.loan.allows_write(address),
+                _ => false,
+            };
+            let at_fence = matches!(fenced.answer.ending.number(), 16 | 19);
+            assert_eq!(barred, at_fence);
             let budget = if at_fence {
                 fenced.answer.beats
             } else {

@@ -1,4 +1,5 @@
-//! A second simulator of the DEC 338 display, written from document 01 and the manual alone.
+//! A second simulator of the DEC 338 display, written from document 01, No. 1 of document 02 and
+//! the manual alone.
 
 #![forbid(unsafe_code)]
 

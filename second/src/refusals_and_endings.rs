@@ -1,39 +1,68 @@
-//! The refusals 1 to 6, the endings 10 to 18, and the loan that decides ending 16.
+//! The refusals 1 to 6, the endings 10 to 19, and the loan that decides endings 16 and 19.
 
 use crate::registers::Registers;
 use crate::words::GREATEST_WORD;
 
 /// 01, refused calls and run endings: the table of refusals and the list of endings, in one
-/// enumeration because every call answers one of them. `Done` is an accepted operation's 0.
+/// enumeration because every call answers one of them. `Done` is an accepted operation's 0. The two
+/// endings at the fence hold the address that 02, No. 1 asks for, so that no other ending has one.
 #[derive(Clone, Copy, Debug, PartialEq, Eq)]
 pub enum Ending {
-    Done = 0,
-    MemoryLength = 1,
-    BudgetTooLarge = 2,
-    BadLoan = 3,
-    RegistersOutOfRange = 4,
-    UnknownOperation = 5,
-    OperandOutOfRange = 6,
-    NotRunning = 10,
-    BudgetSpent = 11,
-    InternalStop = 12,
-    ExternalStop = 13,
-    Edge = 14,
-    UnusableMode = 15,
-    OutsideLoan = 16,
-    WordTooWide = 17,
-    PointListFull = 18,
+    Done,
+    MemoryLength,
+    BudgetTooLarge,
+    BadLoan,
+    RegistersOutOfRange,
+    UnknownOperation,
+    OperandOutOfRange,
+    NotRunning,
+    BudgetSpent,
+    InternalStop,
+    ExternalStop,
+    Edge,
+    UnusableMode,
+    FetchOutsideLoan(u16),
+    WordTooWide,
+    PointListFull,
+    WriteOutsideLoan(u16),
 }
 
 impl Ending {
-    /// The number that 01 gives to it.
+    /// The number that 01 gives to it, or 02, No. 1: "16 (fetch) and 19 (write)".
     pub fn number(self) -> u32 {
-        self as u32
+        match self {
+            Ending::Done => 0,
+            Ending::MemoryLength => 1,
+            Ending::BudgetTooLarge => 2,
+            Ending::BadLoan => 3,
+            Ending::RegistersOutOfRange => 4,
+            Ending::UnknownOperation => 5,
+            Ending::OperandOutOfRange => 6,
+            Ending::NotRunning => 10,
+            Ending::BudgetSpent => 11,
+            Ending::InternalStop => 12,
+            Ending::ExternalStop => 13,
+            Ending::Edge => 14,
+            Ending::UnusableMode => 15,
+            Ending::FetchOutsideLoan(_) => 16,
+            Ending::WordTooWide => 17,
+            Ending::PointListFull => 18,
+            Ending::WriteOutsideLoan(_) => 19,
+        }
+    }
+
+    /// 02, No. 1: "the 15-bit address of the first such touch"; "the other endings and refused runs
+    /// give address 0".
+    pub fn address(self) -> u16 {
+        match self {
+            Ending::FetchOutsideLoan(address) | Ending::WriteOutsideLoan(address) => address,
+            _ => 0,
+        }
     }
 }
 
 /// 01, refused calls and run endings: "A run answers the ending together with its beats and
-/// points. Its word is 0."
+/// points. Its word is 0." The address of 02, No. 1 is the ending's.
 #[derive(Clone, Copy, Debug, PartialEq, Eq)]
 pub struct Answer {
     pub ending: Ending,
@@ -148,23 +177,24 @@ impl<'a> LentMemory<'a> {
     /// asked first, so that the width of a word that isn't lent is never looked at.
     pub fn fetch(&self, address: u16) -> Result<u16, Ending> {
         if !self.loan.allows_fetch(address) {
-            return Err(Ending::OutsideLoan);
+            return Err(Ending::FetchOutsideLoan(address));
         }
         match self.words.get(usize::from(address)) {
             Some(&word) if word <= GREATEST_WORD => Ok(word),
             Some(_) => Err(Ending::WordTooWide),
             // No accepted loan reaches past the memory; what is not there is not lent.
-            None => Err(Ending::OutsideLoan),
+            None => Err(Ending::FetchOutsideLoan(address)),
         }
     }
 
     /// The test of a write without the write, because both writes of a push are tested before
-    /// either is made. 01, easy ways to get it wrong.
+    /// either is made. 01, easy ways to get it wrong. 02, No. 1: its ending is 19, "at the same
+    /// place in the order".
     pub fn test_write(&self, address: u16) -> Result<(), Ending> {
         if self.loan.allows_write(address) {
             Ok(())
         } else {
-            Err(Ending::OutsideLoan)
+            Err(Ending::WriteOutsideLoan(address))
         }
     }
 
@@ -265,13 +295,44 @@ mod tests {
     }
 
     #[test]
+    fn only_the_two_endings_at_the_fence_have_an_address() {
+        let at_the_end = Ending::FetchOutsideLoan(0o77777);
+        assert_eq!((at_the_end.number(), at_the_end.address()), (16, 0o77777));
+        let on_the_list = Ending::WriteOutsideLoan(0o7777);
+        assert_eq!((on_the_list.number(), on_the_list.address()), (19, 0o7777));
+        let others = [
+            Ending::Done,
+            Ending::MemoryLength,
+            Ending::BudgetTooLarge,
+            Ending::BadLoan,
+            Ending::RegistersOutOfRange,
+            Ending::UnknownOperation,
+            Ending::OperandOutOfRange,
+            Ending::NotRunning,
+            Ending::BudgetSpent,
+            Ending::InternalStop,
+            Ending::ExternalStop,
+            Ending::Edge,
+            Ending::UnusableMode,
+            Ending::WordTooWide,
+            Ending::PointListFull,
+        ];
+        let numbers = others.map(Ending::number);
+        assert_eq!(
+            numbers,
+            [0, 1, 2, 3, 4, 5, 6, 10, 11, 12, 13, 14, 15, 17, 18]
+        );
+        assert!(others.iter().all(|ending| ending.address() == 0));
+    }
+
+    #[test]
     fn the_width_of_a_word_that_is_not_lent_is_not_looked_at() {
         let mut words = vec![0o10000u16; MEMORY_LENGTH];
         let memory = LentMemory::new(&mut words, loan((0, 1), (1, 2)));
         assert_eq!(memory.fetch(0), Err(Ending::WordTooWide));
         assert_eq!(memory.fetch(1), Err(Ending::WordTooWide));
-        assert_eq!(memory.fetch(2), Err(Ending::OutsideLoan));
-        assert_eq!(memory.test_write(0), Err(Ending::OutsideLoan));
+        assert_eq!(memory.fetch(2), Err(Ending::FetchOutsideLoan(2)));
+        assert_eq!(memory.test_write(0), Err(Ending::WriteOutsideLoan(0)));
         // A write looks at no width.
         assert_eq!(memory.test_write(1), Ok(()));
     }

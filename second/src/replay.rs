@@ -330,6 +330,7 @@ fn answer_run(case: &RunCase) -> String {
     number(&mut line, answer.ending.number());
     number(&mut line, answer.beats);
     number(&mut line, answer.points);
+    number(&mut line, answer.ending.address());
     write_registers(&mut line, &registers);
     line.push_str(" P");
     for &point in points.iter().take(answer.points as usize) {
@@ -456,14 +457,33 @@ mod tests {
                     100 0 32768 0 32768 8 32768 0 6 64 1032 65 128 128 577 129 2148 130 2248 131 768\n";
         assert_eq!(
             replayed(case),
-            "run 12 4 1 132 1 200 100 0 0 0 0 0 0 0 0 0 0 0 0 1 0 0 0 0 0 0 0 0 0 P 102600 M 0 66\n"
+            "run 12 4 1 0 132 1 200 100 0 0 0 0 0 0 0 0 0 0 0 0 1 0 0 0 0 0 0 0 0 0 P 102600 M 0 66\n"
         );
+    }
+
+    #[test]
+    fn a_run_that_ends_at_the_fence_answers_the_address() {
+        // The same push jump at 64, and the registers that it leaves as they are.
+        let registers = "64 4095 0 0 0 0 0 0 0 0 0 0 0 0 0 0 0 0 0 0 0 0 0 1 0 0";
+        for (loan, answer) in [
+            ("0 0 0 0", "run 16 0 0 64"),
+            ("0 65 0 0", "run 16 0 0 65"),
+            ("0 32768 0 4095", "run 19 0 0 4095"),
+            ("0 32768 4095 4096", "run 19 0 0 0"),
+        ] {
+            assert_eq!(
+                replayed(&format!(
+                    "run {registers} 100 {loan} 8 32768 0 2 64 1032 65 128\n"
+                )),
+                format!("{answer} {registers} P M\n")
+            );
+        }
     }
 
     #[test]
     fn refused_runs_write_nothing_after_p_and_m() {
         let line = |registers: &str, rest: &str| replayed(&format!("run {registers} {rest}\n"));
-        let answer = |number: u32| format!("run {number} 0 0 {FRESH} P M\n");
+        let answer = |number: u32| format!("run {number} 0 0 0 {FRESH} P M\n");
         assert_eq!(line(FRESH, "0 0 0 0 0 0 32767 0 0"), answer(1));
         assert_eq!(line(FRESH, "0 0 0 0 0 0 32769 0 1 32768 5"), answer(1));
         assert_eq!(line(FRESH, "0 0 0 0 0 0 0 0 0"), answer(1));
@@ -475,7 +495,7 @@ mod tests {
         let bad = FRESH.replacen('0', "32768", 1);
         assert_eq!(
             line(&bad, "0 0 0 0 0 0 32768 0 0"),
-            format!("run 4 0 0 {bad} P M\n")
+            format!("run 4 0 0 0 {bad} P M\n")
         );
     }
 

@@ -68,8 +68,8 @@ pub fn run(
     }
 }
 
-/// 01, one turn of a run, tests 2 to 5 and then the beat. Endings 16, 17, 18 "change nothing", so
-/// the beat is made on a copy that replaces the registers only once every test is passed.
+/// 01, one turn of a run, tests 2 to 5 and then the beat. Endings 16 to 19 "change nothing", so the
+/// beat is made on a copy that replaces the registers only once every test is passed.
 fn turn(registers: &mut Registers, memory: &mut LentMemory, room: bool) -> Result<Beat, Ending> {
     external_stop(registers)?;
     unusable_mode(registers)?;
@@ -276,7 +276,7 @@ pub mod tests {
             file: range(0, 0o100),
             list: range(0o101, 0o200),
         };
-        assert_eq!(bench.run(5), ended(Ending::OutsideLoan, 0, 0));
+        assert_eq!(bench.run(5), ended(Ending::FetchOutsideLoan(0o100), 0, 0));
         assert_eq!(bench.registers, before);
     }
 
@@ -295,7 +295,7 @@ pub mod tests {
             file: range(0o200, 0o201),
             list: range(0, 0),
         };
-        assert_eq!(bench.run(5), ended(Ending::OutsideLoan, 0, 0));
+        assert_eq!(bench.run(5), ended(Ending::FetchOutsideLoan(0o201), 0, 0));
         bench.loan = Loan {
             file: range(0o200, 0o201),
             list: range(0o201, 0o202),
@@ -312,7 +312,28 @@ pub mod tests {
             list: range(0, 0),
         };
         bench.registers.y = 100;
-        assert_eq!(bench.run(100), ended(Ending::OutsideLoan, 6, 0));
+        assert_eq!(bench.run(100), ended(Ending::FetchOutsideLoan(0o201), 6, 0));
+    }
+
+    #[test]
+    fn the_address_told_wraps_as_the_display_address_does() {
+        // Words 0 do nothing: the run goes on over the end of memory to what is not lent.
+        let mut bench = Bench::at(0o77776, &[]);
+        bench.loan = Loan {
+            file: range(0o77776, 0o77777),
+            list: range(0, 0),
+        };
+        assert_eq!(bench.run(5), ended(Ending::FetchOutsideLoan(0o77777), 1, 0));
+        bench.loan.list = range(0o77777, 0o100000);
+        assert_eq!(bench.run(5), ended(Ending::FetchOutsideLoan(0), 1, 0));
+        // The second word of a point at 77777o is word 0.
+        let mut bench = Bench::at(0o77777, &[]);
+        bench.registers.state = State::Data;
+        bench.loan = Loan {
+            file: range(1, 0o100000),
+            list: range(0, 0),
+        };
+        assert_eq!(bench.run(5), ended(Ending::FetchOutsideLoan(0), 0, 0));
     }
 
     #[test]
@@ -337,7 +358,7 @@ pub mod tests {
             file: range(0o200, 0o201),
             list: range(0, 0),
         };
-        assert_eq!(bench.run(5), ended(Ending::OutsideLoan, 0, 0));
+        assert_eq!(bench.run(5), ended(Ending::FetchOutsideLoan(0o201), 0, 0));
     }
 
     #[test]

@@ -42,7 +42,7 @@ impl<'a> Lent<'a> {
     #[inline(always)]
     pub fn fetch(&self, address: u32) -> Result<u32, Ending> {
         if !Self::holds(self.file, address) && !Self::holds(self.list, address) {
-            return Err(Ending::OutsideLoan);
+            return Err(Ending::FetchOutsideLoan(address as u16));
         }
         let word = u32::from(self.words[(address & LAST_ADDRESS) as usize]);
         if word > GREATEST_WORD {
@@ -56,10 +56,21 @@ impl<'a> Lent<'a> {
     pub fn store(&mut self, pointer: u32, words: [u32; 2]) -> Result<(), Ending> {
         let next = pointer_after(pointer, 1);
         if !Self::holds(self.list, pointer) || !Self::holds(self.list, next) {
-            return Err(Ending::OutsideLoan);
+            return Err(self.barred(pointer, next));
         }
         self.words[pointer as usize & (WORDS - 1)] = words[0] as u16;
         self.words[next as usize] = words[1] as u16;
         Ok(())
+    }
+
+    /// The ending at the first of two writes that may not both be made.
+    #[cold]
+    fn barred(&self, pointer: u32, next: u32) -> Ending {
+        let address = if Self::holds(self.list, pointer) {
+            next
+        } else {
+            pointer
+        };
+        Ending::WriteOutsideLoan(address as u16)
     }
 }

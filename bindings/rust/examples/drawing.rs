@@ -1,7 +1,8 @@
 //! Document 01's example drawn from Rust, with all of memory lent. Then the same exercise without
-//! its stop, and with no word lent but its own: that run ends at the fence.
+//! its stop, and with no word lent but its own: that run ends at the fence, and tells which word
+//! was not lent.
 
-use eveglome::{fresh, operate, operation, run, Loan, Point, MEMORY};
+use eveglome::{ending, fresh, operate, operation, run, Loan, Point, MEMORY};
 
 const START: usize = 0o200;
 
@@ -22,6 +23,11 @@ fn draw(exercise: &[u16], loan: Loan) {
         println!("{} {} {} {blink}", point.x, point.y, point.intensity);
     }
     println!("ending {} beats {}", answer.ending, answer.beats);
+    match answer.ending {
+        ending::FETCH_OUTSIDE_LOAN => println!("the fetch of {:05o} is not lent", answer.address),
+        ending::WRITE_OUTSIDE_LOAN => println!("the write of {:05o} is not lent", answer.address),
+        _ => {}
+    }
 }
 
 fn main() {

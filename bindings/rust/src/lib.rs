@@ -1,7 +1,8 @@
 //! Eveglome for Rust: a proved simulator of the DEC 338 display, behind a safe interface.
 //!
 //! Whatever numbers arrive, a call is refused or done: nothing has to be checked first. A refused
-//! call leaves registers, memory and points as they were. The exact rules are document 01's.
+//! call leaves registers, memory and points as they were. The exact rules are document
+//! 01's, with what the requests of document 02 change in them; docs/MACHINE.md tells them.
 //!
 //! [`fresh`], [`operate`] and [`run`] are the calls. Their numbers have names: [`place`] names the
 //! registers, [`operation`] the host operations, [`ending`] the refusals and how a run ended.
@@ -57,7 +58,7 @@ impl Loan {
     }
 }
 
-/// What a call answers. A refusal has word 0, beats 0 and points 0.
+/// What a call answers. A refusal has word 0, beats 0, points 0 and address 0.
 #[derive(Clone, Copy, Debug, PartialEq, Eq)]
 pub struct Answer {
     /// One of [`ending`]: a refusal, how a run ended, or 0 for an operation that was done.
@@ -68,6 +69,10 @@ pub struct Answer {
     pub beats: u32,
     /// How many entries of the point list a run filled, from the first.
     pub points: u32,
+    /// With [`ending::FETCH_OUTSIDE_LOAN`] and [`ending::WRITE_OUTSIDE_LOAN`] the address of the
+    /// word that the fence stopped, up to 32,767, 0 being word 0; with every other ending 0, which
+    /// then means nothing.
+    pub address: u32,
 }
 
 impl Answer {
@@ -77,6 +82,7 @@ impl Answer {
             word: numbers[answer::WORD],
             beats: numbers[answer::BEATS],
             points: numbers[answer::POINTS],
+            address: numbers[answer::FENCE_ADDRESS],
         }
     }
 }

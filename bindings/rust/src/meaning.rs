@@ -106,6 +106,7 @@ impl Desk {
             word: 0,
             beats: 0,
             points: 0,
+            address: 0,
         };
         match (&asked[..], &told[..]) {
             (["run", budget], [ending, beats, points @ ..]) => {
@@ -113,10 +114,12 @@ impl Desk {
                 let gave = run(&mut self.row, self.loan, memory, list, number(budget));
                 let lit = self.points[..gave.points as usize].iter();
                 let lit = lit.map(|&entry| (entry, Point::of(entry))).collect();
+                let (ending, address) = ending.split_once('@').unwrap_or((ending, "0"));
                 let says = Answer {
                     ending: ending_of(ending),
                     beats: number(beats),
                     points: points.len() as u32,
+                    address: number(address),
                     ..just
                 };
                 let points = points.iter().map(|point| point_of(point)).collect();

@@ -127,13 +127,14 @@ names! {
         WORD = 1,
         BEATS = 2,
         POINTS = 3,
-        ANSWER = 4,
+        FENCE_ADDRESS = 4,
+        ANSWER = 5,
     }
 }
 
 names! {
-    /// How a call ended: 0 for an operation that was done, 1 to 6 refused, 10 to 18 how a run
-    /// ended.
+    /// How a call ended: 0 for an operation that was done, 1 to 6 refused, 10 to 19 how a run
+    /// ended. A run ends at the fence with 16 or 19.
     ending: u32 {
         /// An operation was done.
         DONE = 0,
@@ -161,12 +162,14 @@ names! {
         EDGE = 14,
         /// Stopped in data state and mode 5 or 7.
         UNUSABLE_MODE = 15,
-        /// Still running, before a fetch outside both ranges or a write outside the list range.
-        OUTSIDE_LOAN = 16,
+        /// Still running, before a fetch outside both ranges.
+        FETCH_OUTSIDE_LOAN = 16,
         /// Still running, before a word above 4,095.
         WIDE_WORD = 17,
         /// Still running, before a point that has no room.
         POINTS_FULL = 18,
+        /// Still running, before a push's write outside the list range.
+        WRITE_OUTSIDE_LOAN = 19,
     }
 }
 

@@ -2,13 +2,14 @@
 
 use eveglome::{ending, fresh, operate, operation, place, run, Answer, Loan, Row, MEMORY};
 
-/// An ending with no word, no beats and no points, as every refusal is.
+/// An ending with no word, no beats, no points and no address, as every refusal is.
 fn just(ending: u32) -> Answer {
     Answer {
         ending,
         word: 0,
         beats: 0,
         points: 0,
+        address: 0,
     }
 }
 
@@ -18,6 +19,7 @@ fn done(word: u32) -> Answer {
         word,
         beats: 0,
         points: 0,
+        address: 0,
     }
 }
 
@@ -164,6 +166,7 @@ fn a_run_draws_a_point() {
         word: 0,
         beats: 3,
         points: 1,
+        address: 0,
     };
     assert_eq!(answer, ended);
     assert_eq!(points, [200 + 1_024 * 100, u32::MAX, u32::MAX, u32::MAX]);
@@ -179,6 +182,32 @@ fn a_run_on_no_points_and_no_running_display_ends_10() {
     let answer = run(&mut row, Loan::ALL, &mut vec![0; MEMORY], &mut [], 0);
     assert_eq!(answer, just(ending::NOT_RUNNING));
     assert_eq!(row, fresh());
+}
+
+/// A push jump writes at the pointer and behind it: of a list range of one word the second write
+/// is outside, and nothing is stored.
+#[test]
+fn a_run_tells_which_word_the_fence_stopped() {
+    let mut memory = vec![0; MEMORY];
+    memory[0o200..0o202].copy_from_slice(&[0o2010, 0o300]);
+    let before = memory.clone();
+    let loan = Loan {
+        file_low: 0o200,
+        file_high: 0o202,
+        list_low: 0o7000,
+        list_high: 0o7001,
+    };
+    let mut row = fresh();
+    operate(&mut row, operation::START, 0o200);
+    operate(&mut row, operation::SET_POINTER, 0o7000);
+    let given = row;
+    let answer = run(&mut row, loan, &mut memory, &mut [], 5);
+    let stopped = Answer {
+        address: 0o7001,
+        ..just(ending::WRITE_OUTSIDE_LOAN)
+    };
+    assert_eq!(answer, stopped);
+    assert_eq!((row, memory), (given, before));
 }
 
 /// Each call has every fault from its own number on, so that the order is seen too.

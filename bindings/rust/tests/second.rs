@@ -48,7 +48,7 @@ fn registers(row: &Row) -> impl Iterator<Item = u32> + '_ {
 
 fn answer_operation(row: &mut Row, operation: u32, operand: u32) -> String {
     let answer = operate(row, operation, operand);
-    assert_eq!((answer.beats, answer.points), (0, 0));
+    assert_eq!((answer.beats, answer.points, answer.address), (0, 0, 0));
     line(
         "op",
         [answer.ending, answer.word]
@@ -75,7 +75,7 @@ fn answer_run(row: &mut Row, case: &RunCase) -> String {
         .zip(before.iter().zip(&memory))
         .filter(|(_, (old, new))| old != new)
         .flat_map(|(address, (_, &new))| [address, u32::from(new)]);
-    let ended = [answer.ending, answer.beats, answer.points];
+    let ended = [answer.ending, answer.beats, answer.points, answer.address];
     line("run", ended.into_iter().chain(registers(row)))
         + &line(" P", lit.iter().copied())
         + &line(" M", changed)

@@ -1,8 +1,8 @@
 // The accident of May: an exercise that forgets its stop runs off its end into old words that look like push jumps. Run with the class's loan, with
 // the old words lent too, and with all of memory lent, it shows what the fence keeps.
-use answers::Numbers;
 use libc::STDOUT_FILENO;
 use loan::Loan;
+use runs::Ran;
 
 // The exercise lies at 1000o, the class's pushdown list at 7000o, and the recovered character table, 64 words of it, behind the list at 7100o.
 const EXERCISE: usize = 512;
@@ -48,13 +48,17 @@ fn damaged(memory: &[u16; 32768]) -> u64 {
     changed
 }
 
-fn tell(answer: Numbers, changed: u64) {
-    io::write_all(STDOUT_FILENO, b"ending ");
-    io::print_decimal(STDOUT_FILENO, answer.ending as u64);
-    io::write_all(STDOUT_FILENO, b" after ");
-    io::print_decimal(STDOUT_FILENO, answer.beats as u64);
-    io::write_all(STDOUT_FILENO, b" beats, ");
-    io::print_decimal(STDOUT_FILENO, answer.points as u64);
+// Says how the run ended, in words, and what it did to the character table.
+fn tell(ran: Ran, changed: u64) {
+    let answer = ran.answer;
+    let left = ran.registers;
+    let mut line = [0u8; 128];
+    let length = meanings::put_sentence(answer, left, &mut line, 0);
+    if length <= 128 {
+        io::write_all(STDOUT_FILENO, &line[..length]);
+    }
+    io::write_all(STDOUT_FILENO, b"  ");
+    io::print_decimal(STDOUT_FILENO, calls::numbered(answer).points as u64);
     io::write_all(STDOUT_FILENO, b" point lit, ");
     io::print_decimal(STDOUT_FILENO, changed);
     io::write_all(
@@ -70,8 +74,7 @@ fn tried(lent: Loan) {
     let started = host::operate(registers::fresh(), 1, 512).registers;
     let ready = host::operate(started, 2, LIST as u32).registers;
     let ran = calls::call(ready, lent, &mut memory, &mut points, 70);
-    let answer = ran.answer;
-    tell(calls::numbered(answer), damaged(&memory));
+    tell(ran, damaged(&memory));
 }
 
 fn main() {

@@ -1,4 +1,4 @@
-// This paper's numbers for an answer, the same four for an operation and for a run.
+// This paper's numbers for an answer, the same five for an operation and for a run.
 ghost use mathlib.Core.Path.{_≡_};
 ghost use Rattle.answers.specs.Answers.{refusedNumbers, doneNumbers, endedNumbers};
 
@@ -8,6 +8,8 @@ pub struct Numbers {
     pub word: u16,
     pub beats: u32,
     pub points: usize,
+    // The word that the fence stopped, where the ending is 16 or 19.
+    pub address: u16,
 }
 
 // The numbers of a refusal.
@@ -19,6 +21,7 @@ pub fn refused_numbers(number: u8) -> Numbers
         word: 0,
         beats: 0,
         points: 0,
+        address: 0,
     }
 }
 
@@ -31,17 +34,19 @@ pub fn done_numbers(word: u16) -> Numbers
         word,
         beats: 0,
         points: 0,
+        address: 0,
     }
 }
 
 // The numbers of a run that ended.
-pub fn ended_numbers(ending: u8, beats: u32, points: usize) -> Numbers
-    ensures { λ r. ⌜ r ≡ endedNumbers ending beats points ⌝ }
+pub fn ended_numbers(ending: u8, beats: u32, points: usize, address: u16) -> Numbers
+    ensures { λ r. ⌜ r ≡ endedNumbers ending beats points address ⌝ }
 {
     Numbers {
         ending,
         word: 0,
         beats,
         points,
+        address,
     }
 }

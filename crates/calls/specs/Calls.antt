@@ -1,5 +1,5 @@
 -- Section 'Refused calls and run endings' of 01: the whole call of a run with its refusals, and this paper's numbers for its answer. Assumes nothing.
-use Prim.Native.Nat.{ℕ}
+use Prim.Native.Nat.{ℕ, _<_}
 use mathlib.Core.Path.{_≡_}
 use mathlib.Core.Bool.{true}
 use mathlib.Core.List.{List}
@@ -12,7 +12,7 @@ use Rattle.loan.specs.declared.Loan.{Loan}
 use Rattle.loan.specs.Loan.{fairLoan}
 use Rattle.beam.specs.DataWords.{points}
 use Rattle.endings.specs.declared.Ending.the-variants.{NotRunning}
-use Rattle.endings.specs.Endings.{endingNumber}
+use Rattle.endings.specs.Endings.{endingNumber, endingAddress}
 use Rattle.runs.specs.declared.Answer.{Answer}
 use Rattle.runs.specs.declared.Answer.the-variants.{Refused, Ended}
 use Rattle.runs.specs.declared.Ran.{Ran}
@@ -47,4 +47,9 @@ KeepsInRange =
 -- this paper's numbers for each answer
 abbrev pub numbered : Answer → Numbers
 numbered (Refused number) = refusedNumbers number
-numbered (Ended ending beats points) = endedNumbers (endingNumber ending) beats points
+numbered (Ended ending beats points) = endedNumbers (endingNumber ending) beats points (endingAddress ending)
+
+-- "the 15-bit address of the first such touch" (02, No. 1), and 0 else
+abbrev pub AddressInRange : Type 0
+AddressInRange =
+    (budget : ℕ) (l : Loan) (r : Registers) (m ps : List ℕ) → numbered (call budget l r m ps .ran .answer) .address < 32768

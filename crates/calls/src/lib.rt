@@ -3,7 +3,7 @@ ghost use mathlib.Core.Path.{_≡_};
 ghost use lib.ListN.{length};
 ghost use Rattle.registers.specs.Good.{Good};
 ghost use Rattle.runs.specs.Runs.{left, leaves};
-ghost use Rattle.calls.specs.Calls.{refusedRun, entered, call, numbered, KeepsInRange};
+ghost use Rattle.calls.specs.Calls.{refusedRun, entered, call, numbered, KeepsInRange, AddressInRange};
 use answers::Numbers;
 use endings::Ending;
 use loan::Loan;
@@ -65,7 +65,8 @@ pub fn numbered(answer: Answer) -> Numbers
     match answer {
         Answer::Refused(number) => answers::refused_numbers(number),
         Answer::Ended(ending, beats, points) => {
-            answers::ended_numbers(endings::ending_number(ending), beats, points)
+            let told = endings::ending_numbers(ending);
+            answers::ended_numbers(told.number, beats, points, told.address)
         }
     }
 }
@@ -73,4 +74,9 @@ pub fn numbered(answer: Answer) -> Numbers
 // No run leaves registers that refusal 4 refuses. It does nothing: its promise is the theorem, so that a check names it.
 pub fn keeps_in_range()
     ensures { λ _. ⌜ KeepsInRange ⌝ }
+{}
+
+// The address that a run answers has 15 bits. It does nothing, like the theorem above.
+pub fn address_in_range()
+    ensures { λ _. ⌜ AddressInRange ⌝ }
 {}

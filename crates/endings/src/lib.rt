@@ -1,6 +1,6 @@
-// How a run ends: what a turn's failure, rest or stop makes of it, and this paper's number for each ending.
+// How a run ends: what a turn's failure, rest or stop makes of it, and this paper's numbers for each ending.
 ghost use mathlib.Core.Path.{_≡_};
-ghost use Rattle.endings.specs.Endings.{rested, restEnding, halted, whyNumber, endingNumber};
+ghost use Rattle.endings.specs.Endings.{rested, restEnding, halted, numbers, whyNumbers, endingNumbers, atFence};
 use beam::Stop;
 use registers::Base;
 use registers::Registers;
@@ -70,27 +70,46 @@ pub fn halted(stop: Stop) -> Halt
     }
 }
 
-fn why_number(why: Why) -> u8
-    ensures { λ r. ⌜ r ≡ whyNumber why ⌝ }
+// An ending's number, and the word that the fence stopped, where it did; else 0.
+pub struct EndingNumbers {
+    pub number: u8,
+    pub address: u16,
+}
+
+fn numbers(number: u8, address: u16) -> EndingNumbers
+    ensures { λ r. ⌜ r ≡ numbers number address ⌝ }
+{
+    EndingNumbers { number, address }
+}
+
+fn why_numbers(why: Why) -> EndingNumbers
+    ensures { λ r. ⌜ r ≡ whyNumbers why ⌝ }
 {
     match why {
-        Why::Fetch(_) => 16,
-        Why::Store(_) => 16,
-        Why::Wide(_) => 17,
-        Why::Full => 18,
+        Why::Fetch(a) => numbers(16, a.number()),
+        Why::Store(a) => numbers(19, a.number()),
+        Why::Wide(_) => numbers(17, 0),
+        Why::Full => numbers(18, 0),
     }
 }
 
-pub fn ending_number(ending: Ending) -> u8
-    ensures { λ r. ⌜ r ≡ endingNumber ending ⌝ }
+pub fn ending_numbers(ending: Ending) -> EndingNumbers
+    ensures { λ r. ⌜ r ≡ endingNumbers ending ⌝ }
 {
     match ending {
-        Ending::NotRunning => 10,
-        Ending::BudgetSpent => 11,
-        Ending::InternalStop => 12,
-        Ending::ExternalStop => 13,
-        Ending::EdgeStop => 14,
-        Ending::UnusableMode => 15,
-        Ending::Failed(why) => why_number(why),
+        Ending::NotRunning => numbers(10, 0),
+        Ending::BudgetSpent => numbers(11, 0),
+        Ending::InternalStop => numbers(12, 0),
+        Ending::ExternalStop => numbers(13, 0),
+        Ending::EdgeStop => numbers(14, 0),
+        Ending::UnusableMode => numbers(15, 0),
+        Ending::Failed(why) => why_numbers(why),
     }
+}
+
+// Whether a run that ended with this number ended at the fence.
+pub fn at_fence(number: u8) -> bool
+    ensures { λ r. ⌜ r ≡ atFence number ⌝ }
+{
+    (number == 16) | (number == 19)
 }

@@ -28,9 +28,9 @@ abbrev pub rowAfterRun : Answer → Registers → List ℕ → List ℕ
 rowAfterRun (RefusedRun number) r row = row
 rowAfterRun (Ended ending beats points) r row = rowOf r
 
--- an answer's four numbers: ending or refusal, word, beats, points
+-- an answer's five numbers: ending or refusal, word, beats, points, address
 abbrev pub told : Numbers → List ℕ
-told n = n .ending ∷ n .word ∷ n .beats ∷ n .points ∷ []
+told n = n .ending ∷ n .word ∷ n .beats ∷ n .points ∷ n .address ∷ []
 
 -- what an operation leaves
 pub record OperationLeft : Type 0 where

@@ -1,5 +1,5 @@
-// The library for other languages: three calls on numbers and lists of numbers. Registers are a row of numbers (crate `numbers`), an answer the four numbers of
-// document 01 (crate `answers`). Whatever arrives is refused or done: no caller has to check first.
+// The library for other languages: three calls on numbers and lists of numbers. Registers are a row of numbers (crate `numbers`), an answer five numbers
+// (crate `answers`). Whatever arrives is refused or done: no caller has to check first.
 ghost use mathlib.Core.Path.{_≡_};
 ghost use Prim.Native.Nat.{_<_};
 ghost use Rattle.registers.specs.Registers.{fresh};
@@ -12,7 +12,7 @@ use registers::Registers;
 use runs::Answer;
 
 // How many numbers an answer has.
-const ANSWER: usize = 4;
+const ANSWER: usize = 5;
 
 // The loan of its four numbers: file low, file high, list low, list high.
 fn loan_of(loan: [u16; 4]) -> Loan
@@ -51,12 +51,18 @@ fn leave_run(answer: Answer, r: Registers, row: &mut [u16; numbers::ROW])
     }
 }
 
-// An answer's four numbers: ending or refusal, word, beats, points.
+// An answer's five numbers: ending or refusal, word, beats, points, address.
 fn told(n: Numbers) -> [u32; ANSWER]
     requires { ⌜ n .points < 4294967296 ⌝ }
     ensures { λ r. ⌜ r ≡ told n ⌝ }
 {
-    [n.ending as u32, n.word as u32, n.beats, n.points as u32]
+    [
+        n.ending as u32,
+        n.word as u32,
+        n.beats,
+        n.points as u32,
+        n.address as u32,
+    ]
 }
 
 // Writes the row of fresh registers.
@@ -80,9 +86,8 @@ pub extern "C" fn eveglome_operate(
     let operated = host::operate(numbers::registers_of(*registers), operation, operand);
     let reply = operated.reply;
     let after = operated.registers;
-    let numbered = host::numbered(reply);
+    *answer = told(host::numbered(reply));
     leave_operation(reply, after, registers);
-    *answer = told(numbered);
 }
 
 // Runs the display. A refused run leaves registers, memory and points as they were.
@@ -106,7 +111,7 @@ pub extern "C" fn eveglome_run(
     );
     let ended = ran.answer;
     let after = ran.registers;
-    let numbered = calls::numbered(ended);
+    // Before the row: behind it, the address would be carried through the whole run.
+    *answer = told(calls::numbered(ended));
     leave_run(ended, after, registers);
-    *answer = told(numbered);
 }

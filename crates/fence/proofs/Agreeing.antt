@@ -74,13 +74,14 @@ made-agrees ps s =
     record {
       registers = s .registers;
       ending = s .ending;
+      address = s .address;
       beats = ap suc (s .beats);
       lit = ap (λ (t : List ℕ). ps ++ t) (s .lit);
       words = s .words;
     }
 
 ended-agrees : {l : Loan} {m n : List ℕ} (r : Registers) (e : Ending) → Agree l m n → Same l (ended r m e) (ended r n e)
-ended-agrees r e h = record { registers = refl; ending = refl; beats = refl; lit = refl; words = h }
+ended-agrees r e h = record { registers = refl; ending = refl; address = refl; beats = refl; lit = refl; words = h }
 
 module _ (l : Loan) where
   onward-agrees : (go : Go) → ((room : ℕ) (r : Registers) (m n : List ℕ) → Agree l m n → Same l (go room r m) (go room r n)) →

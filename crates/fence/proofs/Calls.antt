@@ -24,7 +24,7 @@ use Rattle.endings.specs.declared.Halt.{Halt}
 use Rattle.endings.specs.declared.Halt.the-variants.{Goes, Ends}
 use Rattle.endings.specs.Endings.{halted}
 use Rattle.runs.specs.Runs.{Run, Go, follow, onward, run, CallLeft, leaves, left}
-use Rattle.calls.specs.Calls.{entered, refusedRun, call}
+use Rattle.calls.specs.Calls.{entered, refusedRun, call, numbered}
 use Rattle.fence.specs.Demand3.{Agree, Same, Kept, fenced, AtFence, SameCall, spent}
 use Rattle.fence.proofs.Agreeing.{entered-agrees}
 use Rattle.fence.proofs.Keeping.{same-keeps, entered-keeps}
@@ -57,12 +57,13 @@ module _ (l : Loan) (m n ps qs : List ℕ) (h : Agree l m n) where
   left-agrees {f} {g} s =
       record {
         ran = λ i. record { registers = s .registers i; answer = Ended (s .ending i) (s .beats i) (length (s .lit i)) };
+        numbers = λ i. numbered (Ended (s .ending i) (s .beats i) (length (s .lit i)));
         words = s .words;
         lit = take-at (f .lit) _ _ refl ∙ s .lit ∙ sym (take-at (g .lit) _ _ refl);
       }
 
   refused-agrees : (r : Registers) (number : ℕ) → SameCall l (leaves (refusedRun r number) m ps) (leaves (refusedRun r number) n qs)
-  refused-agrees r number = record { ran = refl; words = h; lit = refl }
+  refused-agrees r number = record { ran = refl; numbers = refl; words = h; lit = refl }
 
   pub calls-agree : (k : ℕ) (r : Registers) → length ps ≡ length qs → SameCall l (call k l r m ps) (call k l r n qs)
   unfolding call pick

@@ -30,7 +30,7 @@ use Rattle.endings.specs.declared.Ending.{Ending}
 use Rattle.endings.specs.declared.Ending.the-variants.{NotRunning, InternalStop, EdgeStop}
 use Rattle.endings.specs.declared.Halt.{Halt}
 use Rattle.endings.specs.declared.Halt.the-variants.{Goes, Ends}
-use Rattle.endings.specs.Endings.{restEnding, halted, whyNumber, endingNumber}
+use Rattle.endings.specs.Endings.{restEnding, halted, whyNumbers, endingNumbers}
 use Rattle.runs.specs.Runs.{Run, ended, made, Go, follow, onward, run}
 use Rattle.calls.specs.Calls.{entered}
 use Rattle.fence.specs.Demand3.{fenced, cut, AtFence}
@@ -46,13 +46,13 @@ Freed l (Does c) u = Does c ≡ u
 
 -- a beat that stops the display, and a rest, end no run at the fence
 halted-free : (s : Stop) (ending : Ending) → halted s ≡ Ends ending → fenced ending ≡ false
-unfolding halted fenced endingNumber
+unfolding halted fenced endingNumbers
 halted-free None ending e = let z : _≡_ {A = ℕ} 0 1 = cc in absurd (omega arith)
 halted-free Internal ending e = let q : InternalStop ≡ ending = cc in rw (← q)
 halted-free Edge ending e = let q : EdgeStop ≡ ending = cc in rw (← q)
 
 rested-free : (resting : Resting) → fenced (restEnding resting) ≡ false
-unfolding restEnding fenced endingNumber
+unfolding restEnding fenced endingNumbers
 rested-free External = refl
 rested-free Unusable = refl
 
@@ -110,7 +110,7 @@ module _ (l : Loan) (f : Fair l) where
   onward-all : (go go′ : Go) → ((room : ℕ) (r : Registers) (m : List ℕ) → fenced (go room r m .ending) ≡ false → go room r m ≡ go′ room r m) →
       (room : ℕ) (r : Registers) (m : List ℕ) (t u : Turn) → Freed l t u → fenced (onward go room r m t .ending) ≡ false →
       onward go room r m t ≡ onward go′ room r m u
-  unfolding fenced endingNumber whyNumber
+  unfolding fenced endingNumbers whyNumbers
   onward-all go go′ ih room r m (Fails (Fetch a)) u e h = never true refl h
   onward-all go go′ ih room r m (Fails (Store a)) u e h = never true refl h
   onward-all go go′ ih room r m (Fails (Wide a)) u e h = rw (← e)
@@ -144,11 +144,11 @@ module _ (l : Loan) (f : Fair l) where
       (room : ℕ) (r : Registers) (m : List ℕ) (t : Turn) → turn l room r m ≡ t → Freed l t (turn all room r m) →
       fenced (onward (run k l) room r m t .ending) ≡ true →
       Stopped l room (onward (run k l) room r m t) (run (onward (run k l) room r m t .beats) all room r m)
-  unfolding fenced endingNumber whyNumber run
+  unfolding fenced endingNumbers whyNumbers run
   onward-stopped k ih room r m (Fails (Fetch a)) q o e =
-      (refl, record { why = Fetch a; ending = refl; stopped = rw sub-zero q; outside = o })
+      (refl, record { why = Fetch a; ending = refl; stopped = rw sub-zero q; outside = o; fetches = λ _. o; writes = λ e. absurd (omega arith) })
   onward-stopped k ih room r m (Fails (Store a)) q o e =
-      (refl, record { why = Store a; ending = refl; stopped = rw sub-zero q; outside = o })
+      (refl, record { why = Store a; ending = refl; stopped = rw sub-zero q; outside = o; fetches = λ e. absurd (omega arith); writes = λ _. o })
   onward-stopped k ih room r m (Fails (Wide a)) q o e = never false e refl
   onward-stopped k ih room r m (Fails Full) q o e = never false e refl
   onward-stopped k ih room r m (Rests resting) q o e = never _ e (rested-free resting)
@@ -173,13 +173,13 @@ module _ (l : Loan) (f : Fair l) where
 
   run-stopped : (k room : ℕ) (r : Registers) (m : List ℕ) → fenced (run k l room r m .ending) ≡ true →
       Stopped l room (run k l room r m) (run (run k l room r m .beats) all room r m)
-  unfolding run fenced endingNumber
+  unfolding run fenced endingNumbers
   run-stopped zero room r m e = never false e refl
   run-stopped (suc k) room r m e = onward-stopped k (run-stopped k) room r m (turn l room r m) refl (turn-freed room r m) e
 
   pub entered-stopped : (k room : ℕ) (r : Registers) (m : List ℕ) → fenced (entered k l room r m .ending) ≡ true →
       Stopped l room (entered k l room r m) (entered (entered k l room r m .beats) all room r m)
-  unfolding entered pick fenced endingNumber
+  unfolding entered pick fenced endingNumbers
   entered-stopped k room r m = by (r .base .running)
     where
       by : (t : Bool) → fenced (pick t (run k l room r m) (ended r m NotRunning) .ending) ≡ true →

@@ -4,9 +4,9 @@ use Prim.Native.Nat.{ℕ, _-_}
 use mathlib.Core.Path.{_≡_}
 use mathlib.Core.Bool.{Bool, true, false}
 use mathlib.Core.List.{List}
-use lib.Dec.{eqb}
 use lib.ListN.{length, getD, take}
 use Rattle.addresses.specs.declared.DisplayAddress.{DisplayAddress}
+use Rattle.addresses.specs.Addresses.{address}
 use Rattle.registers.specs.declared.Registers.{Registers}
 use Rattle.loan.specs.declared.Loan.{Loan}
 use Rattle.loan.specs.Loan.{mayFetch, mayStore, fairLoan, all}
@@ -16,7 +16,7 @@ use Rattle.touches.specs.Touches.{Fails}
 use Rattle.turns.specs.OneTurn.{turn}
 use Rattle.endings.specs.declared.Ending.{Ending}
 use Rattle.endings.specs.declared.Ending.the-variants.{BudgetSpent, Failed}
-use Rattle.endings.specs.Endings.{endingNumber}
+use Rattle.endings.specs.Endings.{endingNumber, endingAddress, atFence}
 use Rattle.runs.specs.declared.Answer.the-variants.{Ended}
 use Rattle.runs.specs.Runs.{Run, CallLeft}
 use Rattle.calls.specs.Calls.{entered, call, numbered}
@@ -25,10 +25,11 @@ use Rattle.calls.specs.Calls.{entered, call, numbered}
 abbrev pub Agree : Loan → List ℕ → List ℕ → Type 0
 Agree l m n = (length m ≡ length n) × ((a : DisplayAddress) → mayFetch l a ≡ true → getD m (a .0) 0 ≡ getD n (a .0) 0)
 
--- "the same registers, ending, beats, points and lent words"
+-- "the same registers, ending, beats, points and lent words", "and the address is among the things that agree" (02, No. 1)
 pub record Same (l : Loan) (f g : Run) : Type 0 where
   pub registers : f .registers ≡ g .registers
   pub ending : f .ending ≡ g .ending
+  pub address : endingAddress (f .ending) ≡ endingAddress (g .ending)
   pub beats : f .beats ≡ g .beats
   pub lit : f .lit ≡ g .lit
   pub words : Agree l (f .memory) (g .memory)
@@ -38,9 +39,9 @@ pub record Kept (l : Loan) (m n : List ℕ) : Type 0 where
   pub size : length n ≡ length m
   pub words : (a : DisplayAddress) → mayStore l a ≡ false → getD n (a .0) 0 ≡ getD m (a .0) 0
 
--- a run ends at the fence if it ends with 16, outside the loan (01, Refused calls and run endings)
+-- "a run ends at the fence if it ends with 16 or 19" (02, No. 1)
 unfoldable pub fenced : Ending → Bool
-fenced e = eqb (endingNumber e) 16
+fenced e = atFence (endingNumber e)
 
 -- the registers, words and points of a run, with a budget of just its beats
 abbrev pub cut : Run → Run
@@ -54,16 +55,19 @@ Outside l (Wide a) = ⊥
 Outside l Full = ⊥
 
 -- of the room, registers and memory that are left at an ending: "its next beat's first touch that can't be made is one the loan doesn't allow", and the
--- ending bears that touch
+-- ending bears that touch. So the address that is answered is of a word that the loan does not let be fetched, with 16, or written, with 19
 pub record AtFence (l : Loan) (room : ℕ) (r : Registers) (m : List ℕ) (e : Ending) : Type 0 where
   pub why : Why
   pub ending : e ≡ Failed why
   pub stopped : turn l room r m ≡ Fails why
   pub outside : Outside l why
+  pub fetches : endingNumber e ≡ 16 → mayFetch l (address (endingAddress e)) ≡ false
+  pub writes : endingNumber e ≡ 19 → mayStore l (address (endingAddress e)) ≡ false
 
--- what two calls answer alike: the registers and the answer, the lent words, and the points lit
+-- what two calls answer alike: the registers and the answer, its numbers, the lent words, and the points lit
 pub record SameCall (l : Loan) (t u : CallLeft) : Type 0 where
   pub ran : t .ran ≡ u .ran
+  pub numbers : numbered (t .ran .answer) ≡ numbered (u .ran .answer)
   pub words : Agree l (t .memory) (u .memory)
   pub lit : take (numbered (t .ran .answer) .points) (t .points) ≡ take (numbered (u .ran .answer) .points) (u .points)
 

@@ -120,7 +120,7 @@ fn run(a: Asked, input: &[u8]) {
 
 // Whether a run ended where its lesson said.
 fn stopped(answer: Answer) -> bool {
-    calls::numbered(answer).ending == endings::ending_number(Ending::InternalStop)
+    calls::numbered(answer).ending == endings::ending_numbers(Ending::InternalStop).number
 }
 
 // The practice program's run: all of memory lent, and room for 1,024 points.

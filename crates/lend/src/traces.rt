@@ -157,7 +157,7 @@ pub(crate) fn write(a: Asked, s: Source, memory: &mut Memory) {
     while beat < budget {
         let made = write_lit(beat + 1, r, l, memory, 0 < room);
         let told = made.told;
-        if told.ending != endings::ending_number(Ending::BudgetSpent) {
+        if told.ending != endings::ending_numbers(Ending::BudgetSpent).number {
             return;
         }
         let point = lit(told);

@@ -1,4 +1,5 @@
--- An answer of a run in words, for people: its ending with 01's number, the beats, and what it means, with the word that caused it. Assumes nothing.
+-- An answer of a run in words, for people: its ending with its number, the word that the fence stopped, the beats, and what it means, with the word that
+-- caused it. Assumes nothing.
 use Prim.Native.Nat.{ℕ, _%_}
 use mathlib.Core.Bool.{Bool}
 use mathlib.Core.List.{List, [], _∷_, _++_}
@@ -10,7 +11,8 @@ use Rattle.touches.specs.declared.Why.{Why}
 use Rattle.touches.specs.declared.Why.the-variants.{Fetch, Store, Wide, Full}
 use Rattle.endings.specs.declared.Ending.{Ending}
 use Rattle.endings.specs.declared.Ending.the-variants.{NotRunning, BudgetSpent, InternalStop, ExternalStop, EdgeStop, UnusableMode, Failed}
-use Rattle.endings.specs.Endings.{endingNumber}
+use Rattle.endings.specs.declared.EndingNumbers.{EndingNumbers}
+use Rattle.endings.specs.Endings.{endingNumbers, atFence}
 use Rattle.runs.specs.declared.Answer.{Answer}
 use Rattle.runs.specs.declared.Answer.the-variants.{Refused, Ended}
 use Rattle.text.specs.Text.{bytes, decimal, number, octalAddress}
@@ -37,13 +39,17 @@ meaning EdgeStop points vertical horizontal = bytes "the beam left the screen, "
 meaning UnusableMode points vertical horizontal = bytes "data in mode 5 or 7, which cannot be used"
 meaning (Failed why) points vertical horizontal = failure why points
 
+-- " at 07100": the word that the fence stopped, if the run ended there (02, No. 1)
+unfoldable pub stoppedAt : EndingNumbers → List ℕ
+stoppedAt n = pick (atFence (n .number)) (bytes " at " ++ octalAddress (n .address)) []
+
 -- "36 beats: "
 unfoldable pub beatsTold : ℕ → List ℕ
 beatsTold beats = decimal beats ++ pick (eqb beats 1) (bytes " beat: ") (bytes " beats: ")
 
 unfoldable pub endedSentence : Ending → ℕ → ℕ → Bool → Bool → List ℕ
 endedSentence ending beats points vertical horizontal =
-    bytes "ending " ++ decimal (endingNumber ending) ++ bytes " after " ++ beatsTold beats ++ meaning ending points vertical horizontal ++ (10 ∷ [])
+    bytes "ending " ++ decimal (endingNumbers ending .number) ++ stoppedAt (endingNumbers ending) ++ bytes " after " ++ beatsTold beats ++ meaning ending points vertical horizontal ++ (10 ∷ [])
 
 -- the answer of a run, and the registers that it left
 unfoldable pub sentence : Answer → Registers → List ℕ

@@ -2,9 +2,10 @@
 ghost use mathlib.Core.Path.{_≡_};
 ghost use mathlib.Core.List.{_++_};
 ghost use Rattle.text.specs.Text.{filled, puts, octalAddress};
-ghost use Rattle.meanings.specs.Meanings.{edges, failure, meaning, beatsTold, endedSentence, sentence};
+ghost use Rattle.meanings.specs.Meanings.{edges, failure, meaning, stoppedAt, beatsTold, endedSentence, sentence};
 use addresses::DisplayAddress;
 use endings::Ending;
+use endings::EndingNumbers;
 use registers::Registers;
 use runs::Answer;
 use touches::Why;
@@ -87,6 +88,18 @@ fn put_meaning(
     }
 }
 
+// The word that the fence stopped, if the run ended there.
+fn put_stopped(told: EndingNumbers, text: &mut [u8], place: usize) -> usize
+    ensures { λ r. ⌜ filled r (now (text .exit)) ≡ puts (stoppedAt told) (filled place (now (text .entry))) ⌝ }
+{
+    if endings::at_fence(told.number) {
+        let named = text::put_all(b" at ", text, place);
+        text::put_address(told.address, text, named)
+    } else {
+        place
+    }
+}
+
 fn put_beats(beats: u32, text: &mut [u8], place: usize) -> usize
     ensures { λ r. ⌜ filled r (now (text .exit)) ≡ puts (beatsTold beats) (filled place (now (text .entry))) ⌝ }
 {
@@ -110,8 +123,10 @@ fn put_ended(
     ensures { λ r. ⌜ filled r (now (text .exit)) ≡ puts (endedSentence ending beats points vertical horizontal) (filled place (now (text .entry))) ⌝ }
 {
     let named = text::put_all(b"ending ", text, place);
-    let numbered = text::put_decimal(endings::ending_number(ending) as u32, text, named);
-    let after = text::put_all(b" after ", text, numbered);
+    let told = endings::ending_numbers(ending);
+    let numbered = text::put_decimal(told.number as u32, text, named);
+    let stopped = put_stopped(told, text, numbered);
+    let after = text::put_all(b" after ", text, stopped);
     let counted = put_beats(beats, text, after);
     let meant = put_meaning(ending, points, vertical, horizontal, text, counted);
     text::put(b'\n', text, meant)

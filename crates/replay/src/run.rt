@@ -65,7 +65,8 @@ fn write(registers: Registers, told: Numbers, out: &mut Block, place: usize) -> 
     let first = output::number(told.ending as u64, out, named);
     let second = output::number(told.beats as u64, out, first);
     let third = output::number(told.points as u64, out, second);
-    fields::write(registers, out, third)
+    let fourth = output::number(told.address as u64, out, third);
+    fields::write(registers, out, fourth)
 }
 
 // Runs, and writes the answer.

@@ -43,7 +43,7 @@ abbrev pub follow : Go → ℕ → List ℕ → Act → Halt → Run
 follow go room m c Goes = go (room - length (points (c .lit))) (c .registers) (store (c .stores) m)
 follow go room m c (Ends ending) = ended (c .registers) (store (c .stores) m) ending
 
--- endings 16, 17, 18 change nothing and leave running on; 13 and 15 make no beat
+-- endings 16 to 19 change nothing and leave running on; 13 and 15 make no beat
 abbrev pub onward : Go → ℕ → Registers → List ℕ → Turn → Run
 onward go room r m (Fails why) = ended r m (Failed why)
 onward go room r m (Rests resting) = ended (rested r resting) m (restEnding resting)

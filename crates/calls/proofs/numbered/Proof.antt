@@ -13,4 +13,4 @@ numbered-spec =
     (λ c κs. search needs)
     (λ c κs. search needs)
     (λ c. rw (c .before .before .answer .given .1, c .refused-numbers .ensures))
-    (λ c. rw (c .before .before .before .answer2 .given .1, c .ended-numbers .ensures, c .before .ending-number .ensures)))
+    (λ c. rw (c .before .before .before .answer2 .given .1, c .ended-numbers .ensures, c .before .ending-numbers .ensures)))

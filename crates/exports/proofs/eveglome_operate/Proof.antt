@@ -13,12 +13,14 @@ eveglome-operate-spec =
     (λ c κs. search needs)
     (λ c κs. search needs)
     (λ c κs. search needs)
+    (λ c κs. rw (c .numbered .ensures) (reply-points (c .before .before .operate .result .reply)))
     (λ c κs. search needs)
-    (λ c κs. rw (c .before .before .numbered .ensures) (reply-points (c .before .before .before .before .operate .result .reply)))
-    (λ c. rw (
-      c .told .ensures,
-      c .before .leave-operation .ensures,
-      c .before .before .before .numbered .ensures,
-      c .before .before .before .before .before .operate .ensures,
-      c .before .before .before .before .before .before .registers-of .ensures,
+    (λ c. let answered = c .before .before in
+    let operated = answered .before .before .before in
+    rw (
+      c .leave-operation .ensures,
+      answered .told .ensures,
+      answered .before .numbered .ensures,
+      operated .operate .ensures,
+      operated .before .registers-of .ensures,
     )))

@@ -16,17 +16,20 @@ eveglome-run-spec =
     (λ c κs. search needs)
     (λ c κs. search needs)
     (λ c κs. search needs)
+    (λ c κs. let ran = c .before .before .before .before .before .before in
+    rw (c .numbered .ensures) (subst Few (sym (ran .call .ensures)) (answer-points _ _ _ _ _)))
     (λ c κs. search needs)
-    (λ c κs. let k = c .before .before .before .before .before .before .before .before in
-    rw (c .before .before .numbered .ensures) (subst Few (sym (k .call .ensures)) (answer-points _ _ _ _ _)))
     (λ c. search needs)
     (λ c. search needs)
-    (λ c. let k = c .before .before .before .before .before .before .before .before .before in
+    (λ c. let answered = c .before .before in
+    let ran = answered .before .before .before .before .before .before .before in
+    let lent = ran .before .before .before in
+    let given = lent .before .before in
     rw (
-      c .told .ensures,
-      c .before .leave-run .ensures,
-      c .before .before .before .numbered .ensures,
-      ← k .before .before .before .loan-of .ensures,
-      ← k .before .before .before .before .before .registers-of .ensures,
+      c .leave-run .ensures,
+      answered .told .ensures,
+      answered .before .numbered .ensures,
+      ← lent .loan-of .ensures,
+      ← given .registers-of .ensures,
     )
-    (ap (ranAs (now (k .before .before .before .before .before .before .before .before .before .args .registers))) (k .call .ensures))))
+    (ap (ranAs (now (given .before .before .before .before .args .registers))) (ran .call .ensures))))

@@ -16,6 +16,7 @@ put-ended-spec =
     (λ c κs. search needs)
     (λ c. search needs)
     (λ c κs. search needs)
+    (λ c κs. search needs)
     (λ c. search needs)
     (λ c κs. search needs)
     (λ c κs. search needs)
@@ -25,6 +26,8 @@ put-ended-spec =
     (λ c. let newline = c .before .before in
     let meant = newline .before .before .before .before in
     let counted = meant .before .before .before .before in
-    let behind-number = counted .before .before .before .before in
-    let numbered = behind-number .before .before .before .before .before in
-    behind _ _ _ (behind _ _ _ (behind _ _ _ (behind _ _ _ (behind _ _ _ (numbered .before .before .before .before .before .put-all .ensures) (rw (numbered .before .before .ending-number .ensures) at (numbered .put-decimal .ensures))) (behind-number .put-all2 .ensures)) (counted .put-beats .ensures)) (meant .put-meaning .ensures)) (newline .put .ensures)))
+    let further = counted .before .before .before .before in
+    let stopped = further .before .before .before .before .before in
+    let numbered = stopped .before .before .before .before in
+    let told = numbered .before .before .before in
+    behind _ _ _ (behind _ _ _ (behind _ _ _ (behind _ _ _ (behind _ _ _ (behind _ _ _ (told .before .before .before .put-all .ensures) (rw (told .ending-numbers .ensures) at (numbered .put-decimal .ensures))) (rw (told .ending-numbers .ensures) at (stopped .put-stopped .ensures))) (further .put-all2 .ensures)) (counted .put-beats .ensures)) (meant .put-meaning .ensures)) (newline .put .ensures)))

@@ -1,0 +1,52 @@
+-- A turn from registers in range tells an address of memory where a touch can't be made. Assumes nothing.
+use Prim.Native.Nat.{ℕ}
+use mathlib.Core.List.{List}
+use native.Mathlib.Omega.{arith}
+use lib.Dec.{eqb, leb}
+use lib.ListN.{length}
+use Rattle.words.proofs.Laws.{pick-case}
+use Rattle.addresses.specs.Addresses.{addressAfter}
+use Rattle.registers.specs.declared.Base.{Base}
+use Rattle.registers.specs.declared.Registers.{Registers}
+use Rattle.registers.specs.Good.{GoodBase, Good}
+use Rattle.beam.specs.DataWords.{points}
+use Rattle.moves.specs.declared.Moving.{Moving}
+use Rattle.moves.specs.declared.Moving.the-variants.{Still, Going}
+use Rattle.moves.specs.DataWords.{nextMove}
+use Rattle.loan.specs.declared.Loan.{Loan}
+use Rattle.touches.specs.Touches.{Turn, Fails, Rests, Does, walk}
+use Rattle.touches.proofs.Inside.{Inside, InsideTurn, walk-inside}
+use Rattle.control_beats.specs.ControlWords.{unheld}
+use Rattle.control_beats.proofs.Inside.{control-inside}
+use Rattle.turns.specs.OneTurn.{longBeat, dataBeat, commandBeat, unusable, idleBeat, beatBy, beat, roomFor, turn}
+
+data-inside : (b : Base) (w : ℕ) → Inside (dataBeat b w)
+unfolding dataBeat longBeat addressAfter
+data-inside b w =
+    pick-case Inside (eqb (b .mode) 1) (λ _. tt)
+    (λ _. pick-case Inside (eqb (b .mode) 4) (λ _. tt)
+    (λ _. pick-case Inside (eqb (b .mode) 6) (λ _. tt) (λ _. (omega arith, λ _. tt))))
+
+idle-inside : (b : Base) → GoodBase b → Inside (idleBeat b)
+unfolding idleBeat commandBeat
+idle-inside b g =
+    pick-case Inside (b .request) (λ _. tt)
+    (λ _. pick-case Inside (unusable b) (λ _. tt)
+    (λ _. (g .address, λ w. pick-case Inside (b .datastate) (λ _. data-inside (unheld b) w) (λ _. control-inside (unheld b) w))))
+
+by-inside : (b : Base) → GoodBase b → (v : Moving) → Inside (beatBy b v)
+by-inside b g Still = idle-inside b g
+by-inside b g (Going v) = tt
+
+beat-inside : (r : Registers) → Good r → Inside (beat r)
+beat-inside r g = by-inside (r .base) (g .base) (nextMove (r .motion) (r .base .mode) (r .base .scale))
+
+room-inside : (room : ℕ) (t : Turn) → InsideTurn t → InsideTurn (roomFor room t)
+unfolding roomFor
+room-inside room (Fails why) h = h
+room-inside room (Rests resting) h = tt
+room-inside room (Does c) h = pick-case InsideTurn (leb (length (points (c .lit))) room) (λ _. tt) (λ _. tt)
+
+pub turn-inside : (l : Loan) (room : ℕ) (r : Registers) → Good r → (m : List ℕ) → InsideTurn (turn l room r m)
+unfolding turn
+turn-inside l room r g m = room-inside room (walk l m (beat r)) (walk-inside l m (beat r) (beat-inside r g))

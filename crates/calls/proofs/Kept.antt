@@ -3,7 +3,6 @@ use Prim.Native.Nat.{ℕ, zero, suc, _-_}
 use mathlib.Core.Path.{_≡_}
 use mathlib.Core.Bool.{true}
 use mathlib.Core.List.{List}
-use lib.Dec.{eqb, leb}
 use lib.ListN.{length}
 use Rattle.words.proofs.Laws.{pick-case}
 use Rattle.registers.specs.declared.Registers.{Registers}
@@ -11,7 +10,6 @@ use Rattle.registers.specs.Registers.{inRange}
 use Rattle.registers.specs.Good.{Good}
 use Rattle.registers.proofs.InRange.{good, formed}
 use Rattle.loan.specs.declared.Loan.{Loan}
-use Rattle.loan.specs.Loan.{fairLoan}
 use Rattle.touches.specs.Touches.{Turn, Fails, Rests, Does, store}
 use Rattle.beam.specs.DataWords.{points}
 use Rattle.turns.specs.OneTurn.{turn}
@@ -20,7 +18,8 @@ use Rattle.endings.specs.declared.Halt.{Halt}
 use Rattle.endings.specs.declared.Halt.the-variants.{Goes, Ends}
 use Rattle.endings.specs.Endings.{halted}
 use Rattle.runs.specs.Runs.{Run, Go, follow, onward, run, CallLeft}
-use Rattle.calls.specs.Calls.{entered, call, KeepsInRange}
+use Rattle.calls.specs.Calls.{entered, KeepsInRange}
+use Rattle.calls.proofs.Case.{call-case}
 use Rattle.endings.proofs.Kept.{rested-good}
 
 module _ (l : Loan) where
@@ -47,10 +46,4 @@ abbrev Kept : CallLeft → Type 0
 Kept t = inRange (t .ran .registers) ≡ true
 
 pub keeps : KeepsInRange
-unfolding call
-keeps k l r m ps h =
-    pick-case Kept (eqb (length m) 32768)
-    (λ _. pick-case Kept (leb k 65535)
-    (λ _. pick-case Kept (fairLoan l)
-    (λ _. pick-case Kept (inRange r) (λ e. formed _ (entered-good l k (length ps) r (good r e) m)) (λ _. h)) (λ _. h)) (λ _. h))
-    (λ _. h)
+keeps k l r m ps h = call-case k l r m ps Kept (λ _ _ _ e. formed _ (entered-good l k (length ps) r (good r e) m)) (λ _. h)

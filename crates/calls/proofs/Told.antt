@@ -1,18 +1,14 @@
 -- The address that a run answers has 15 bits: a turn from registers in range tells no other (turns' Inside.antt), and a run's registers stay in range. Assumes
 -- nothing.
 use Prim.Native.Nat.{ℕ, zero, suc, _-_, _<_}
-use mathlib.Core.Path.{_≡_}
 use mathlib.Core.List.{List}
 use native.Mathlib.Omega.{arith}
-use lib.Dec.{eqb, leb}
 use lib.ListN.{length}
 use Rattle.words.proofs.Laws.{pick-case}
 use Rattle.registers.specs.declared.Registers.{Registers}
-use Rattle.registers.specs.Registers.{inRange}
 use Rattle.registers.specs.Good.{Good}
 use Rattle.registers.proofs.InRange.{good}
 use Rattle.loan.specs.declared.Loan.{Loan}
-use Rattle.loan.specs.Loan.{fairLoan}
 use Rattle.beam.specs.declared.Stop.{Stop}
 use Rattle.beam.specs.declared.Stop.the-variants.{None, Internal, Edge}
 use Rattle.beam.specs.DataWords.{points}
@@ -30,7 +26,8 @@ use Rattle.endings.specs.declared.Halt.{Halt}
 use Rattle.endings.specs.declared.Halt.the-variants.{Goes, Ends}
 use Rattle.endings.specs.Endings.{restEnding, halted, whyNumbers, endingNumbers, endingAddress}
 use Rattle.runs.specs.Runs.{Run, Go, follow, onward, run, CallLeft}
-use Rattle.calls.specs.Calls.{entered, call, numbered, AddressInRange}
+use Rattle.calls.specs.Calls.{entered, numbered, AddressInRange}
+use Rattle.calls.proofs.Case.{call-case}
 
 abbrev Small : Ending → Type 0
 Small e = endingAddress e < 32768
@@ -84,10 +81,4 @@ abbrev Told : CallLeft → Type 0
 Told t = numbered (t .ran .answer) .address < 32768
 
 pub told : AddressInRange
-unfolding call
-told k l r m ps =
-    pick-case Told (eqb (length m) 32768)
-    (λ _. pick-case Told (leb k 65535)
-    (λ _. pick-case Told (fairLoan l)
-    (λ _. pick-case Told (inRange r) (λ e. entered-small l k (length ps) r (good r e) m) (λ _. omega arith)) (λ _. omega arith)) (λ _. omega arith))
-    (λ _. omega arith)
+told k l r m ps = call-case k l r m ps Told (λ _ _ _ e. entered-small l k (length ps) r (good r e) m) (λ _. omega arith)

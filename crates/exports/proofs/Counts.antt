@@ -1,20 +1,17 @@
 -- The points of an answer fit 32 bits: an operation lights none, and a run's beat at most one, of at most 65,535 beats. Assumes nothing.
 use Prim.Native.Nat.{ℕ, zero, suc, _≤_, _<_}
 use mathlib.Core.List.{List}
-use lib.Dec.{eqb, leb}
 use lib.ListN.{length, length-append}
 use native.Mathlib.Omega.{arith}
 use borrow.Author.Tests.{leb-true}
 use Rattle.words.proofs.Laws.{pick-case}
 use Rattle.registers.specs.declared.Registers.{Registers}
-use Rattle.registers.specs.Registers.{inRange}
 use Rattle.host.specs.declared.Reply.{Reply}
 use Rattle.host.specs.declared.Reply.the-variants.{Refused, Done}
 use Rattle.host.specs.HostOperations.{numbered as replyNumbered}
 use Rattle.beam.specs.declared.Lit.{Lit}
 use Rattle.beam.specs.declared.Lit.the-variants.{Dark, Point}
 use Rattle.loan.specs.declared.Loan.{Loan}
-use Rattle.loan.specs.Loan.{fairLoan}
 use Rattle.touches.specs.Touches.{Turn, Fails, Rests, Does}
 use Rattle.beam.specs.DataWords.{points}
 use Rattle.turns.specs.OneTurn.{turn}
@@ -23,6 +20,7 @@ use Rattle.endings.specs.declared.Halt.the-variants.{Goes, Ends}
 use Rattle.endings.specs.Endings.{halted}
 use Rattle.runs.specs.Runs.{Run, Go, follow, onward, run, CallLeft}
 use Rattle.calls.specs.Calls.{entered, call, numbered as answerNumbered}
+use Rattle.calls.proofs.Case.{call-case}
 
 pub reply-points : (q : Reply) → replyNumbered q .points < 4294967296
 reply-points (Refused number) = omega arith
@@ -55,10 +53,5 @@ abbrev pub Few : CallLeft → Type 0
 Few t = answerNumbered (t .ran .answer) .points < 4294967296
 
 pub answer-points : (budget : ℕ) (l : Loan) (r : Registers) (m ps : List ℕ) → Few (call budget l r m ps)
-unfolding call
 answer-points k l r m ps =
-    pick-case Few (eqb (length m) 32768)
-    (λ _. pick-case Few (leb k 65535)
-    (λ h. pick-case Few (fairLoan l)
-    (λ _. pick-case Few (inRange r) (λ _. omega (arith, leb-true k 65535 h, entered-few k l (length ps) r m)) (λ _. omega arith)) (λ _. omega arith)) (λ _. omega arith))
-    (λ _. omega arith)
+    call-case k l r m ps Few (λ _ h _ _. omega (arith, leb-true k 65535 h, entered-few k l (length ps) r m)) (λ _. omega arith)

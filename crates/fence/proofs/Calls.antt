@@ -25,21 +25,11 @@ use Rattle.endings.specs.declared.Halt.the-variants.{Goes, Ends}
 use Rattle.endings.specs.Endings.{halted}
 use Rattle.runs.specs.Runs.{Run, Go, follow, onward, run, CallLeft, leaves, left}
 use Rattle.calls.specs.Calls.{entered, refusedRun, call, numbered}
+use Rattle.calls.proofs.Case.{call-case}
 use Rattle.fence.specs.Demand3.{Agree, Same, Kept, fenced, AtFence, SameCall, spent}
 use Rattle.fence.proofs.Agreeing.{entered-agrees}
 use Rattle.fence.proofs.Keeping.{same-keeps, entered-keeps}
 use Rattle.fence.proofs.Freeing.{entered-all, entered-stopped}
-
--- what holds of the run where all tests pass, and of every refusal, holds of the call
-call-case : (k : ℕ) (l : Loan) (r : Registers) (m ps : List ℕ) (P : CallLeft → Type 0) →
-    (eqb (length m) 32768 ≡ true → leb k 65535 ≡ true → fairLoan l ≡ true → inRange r ≡ true → P (left (entered k l (length ps) r m) ps)) →
-    ((number : ℕ) → P (leaves (refusedRun r number) m ps)) → P (call k l r m ps)
-unfolding call
-call-case k l r m ps P run refusal =
-    pick-case P (eqb (length m) 32768)
-    (λ s. pick-case P (leb k 65535)
-    (λ b. pick-case P (fairLoan l) (λ f. pick-case P (inRange r) (run s b f) (λ _. refusal 4)) (λ _. refusal 3)) (λ _. refusal 2))
-    (λ _. refusal 1)
 
 -- where all tests pass
 accepted : (k : ℕ) (l : Loan) (r : Registers) (m ps : List ℕ) →

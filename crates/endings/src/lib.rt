@@ -24,6 +24,12 @@ pub enum Halt {
     Ends(Ending),
 }
 
+// An ending's number, and the address of the word that the fence stopped; 0 where it stopped none.
+pub struct EndingNumbers {
+    pub number: u8,
+    pub address: u16,
+}
+
 // The registers of a display that rests.
 pub fn rested(r: Registers, resting: Resting) -> Registers
     ensures { λ q. ⌜ q ≡ rested r resting ⌝ }
@@ -68,12 +74,6 @@ pub fn halted(stop: Stop) -> Halt
         Stop::Internal => Halt::Ends(Ending::InternalStop),
         Stop::Edge => Halt::Ends(Ending::EdgeStop),
     }
-}
-
-// An ending's number, and the word that the fence stopped, where it did; else 0.
-pub struct EndingNumbers {
-    pub number: u8,
-    pub address: u16,
 }
 
 fn numbers(number: u8, address: u16) -> EndingNumbers

@@ -11,7 +11,7 @@ use lib.Seq.{sets, sets-eq, drop-cons, drop-length}
 use borrow.Author.Tests.{lt-ltb}
 use Rattle.words.specs.Words.{pick}
 use Rattle.words.proofs.Laws.{pick-case}
-use Rattle.text.specs.Text.{Filled, filled, put, puts, whole, figure, decimal, number}
+use Rattle.text.specs.Text.{Filled, filled, put, puts, whole, figure, decimal, octal, number}
 
 puts-append : (a b : List ℕ) (f : Filled) → puts (a ++ b) f ≡ puts b (puts a f)
 unfolding puts
@@ -52,16 +52,21 @@ puts-whole bytes text h =
     puts-sets bytes 0 text (omega arith)
     ∙ rw (zero-add (length bytes)) (ap (filled (length bytes)) (sets-eq bytes text 0 (omega arith) ∙ rw (zero-add (length bytes))))
 
-length-figure : (n weight : ℕ) → length (figure n weight) ≤ 1
+length-figure : (base n weight : ℕ) → length (figure base n weight) ≤ 1
 unfolding figure
-length-figure n weight =
+length-figure base n weight =
     pick-case (λ (t : List ℕ). length t ≤ 1) (leb weight n) (λ _. omega arith) (λ _. omega arith)
 
 pub length-decimal : (n : ℕ) → length (decimal n) ≤ 5
 unfolding decimal
 length-decimal n =
     simp length-append
-    (omega (arith, length-figure n 10000, length-figure n 1000, length-figure n 100, length-figure n 10))
+    (omega (arith, length-figure 10 n 10000, length-figure 10 n 1000, length-figure 10 n 100, length-figure 10 n 10))
+
+pub length-octal : (n : ℕ) → length (octal n) ≤ 4
+unfolding octal
+length-octal n =
+    simp length-append (omega (arith, length-figure 8 n 512, length-figure 8 n 64, length-figure 8 n 8))
 
 pub length-number : (n end : ℕ) → length (number n end) ≤ 6
 unfolding number

@@ -33,25 +33,29 @@ puts (byte ∷ bytes) f = puts bytes (put byte f)
 unfoldable pub whole : List ℕ → List ℕ → Filled
 whole bytes text = filled (length bytes) (bytes ++ drop (length bytes) text)
 
--- one decimal figure as a byte: 0 is 48
-abbrev pub digit : ℕ → ℕ
-digit n = 48 + n % 10
+-- one figure in a base as a byte: 0 is 48
+abbrev pub digit : ℕ → ℕ → ℕ
+digit base n = 48 + n % base
 
 -- the figure of this weight; none in the place of a leading zero
-unfoldable pub figure : ℕ → ℕ → List ℕ
-figure n weight = pick (leb weight n) (digit (n / weight) ∷ []) []
+unfoldable pub figure : ℕ → ℕ → ℕ → List ℕ
+figure base n weight = pick (leb weight n) (digit base (n / weight) ∷ []) []
 
 -- a number below 100,000 in decimal, without leading zeros
 unfoldable pub decimal : ℕ → List ℕ
-decimal n = figure n 10000 ++ figure n 1000 ++ figure n 100 ++ figure n 10 ++ digit n ∷ []
+decimal n = figure 10 n 10000 ++ figure 10 n 1000 ++ figure 10 n 100 ++ figure 10 n 10 ++ digit 10 n ∷ []
+
+-- a number below 4,096 in octal, without leading zeros
+unfoldable pub octal : ℕ → List ℕ
+octal n = figure 8 n 512 ++ figure 8 n 64 ++ figure 8 n 8 ++ digit 8 n ∷ []
 
 -- a number and the byte that ends it
 unfoldable pub number : ℕ → ℕ → List ℕ
 number n end = decimal n ++ end ∷ []
 
--- the digit of this weight in octal, as a byte: 0 is 48
+-- the digit of this weight in octal
 abbrev pub octalDigit : ℕ → ℕ → ℕ
-octalDigit n weight = 48 + n / weight % 8
+octalDigit n weight = digit 8 (n / weight)
 
 -- a word in four octal digits, and an address in five
 unfoldable pub octalWord : ℕ → List ℕ

@@ -2,7 +2,7 @@
 ghost use mathlib.Core.Path.{_≡_};
 ghost use mathlib.Core.List.{[], _∷_};
 ghost use Prim.Native.Nat.{_≤_};
-ghost use Rattle.text.specs.Text.{filled, puts, figure, decimal, number, octalDigit, octalWord, octalAddress};
+ghost use Rattle.text.specs.Text.{filled, puts, figure, decimal, number, octal, octalDigit, octalWord, octalAddress};
 
 pub fn put(byte: u8, text: &mut [u8], place: usize) -> usize
     ensures { λ r. ⌜ filled r (now (text .exit)) ≡ puts (byte ∷ []) (filled place (now (text .entry))) ⌝ }
@@ -27,13 +27,13 @@ pub fn put_all(bytes: &[u8], text: &mut [u8], place: usize) -> usize
     at
 }
 
-// One figure of a number, by its weight: none where the number is smaller.
-fn put_figure(value: u32, weight: u32, text: &mut [u8], place: usize) -> usize
-    requires { ⌜ 1 ≤ weight ⌝ }
-    ensures { λ r. ⌜ filled r (now (text .exit)) ≡ puts (figure value weight) (filled place (now (text .entry))) ⌝ }
+// One figure of a number in a base, by its weight: none where the number is smaller.
+fn put_figure(base: u32, value: u32, weight: u32, text: &mut [u8], place: usize) -> usize
+    requires { ⌜ (1 ≤ base) × (base ≤ 10) × (1 ≤ weight) ⌝ }
+    ensures { λ r. ⌜ filled r (now (text .exit)) ≡ puts (figure base value weight) (filled place (now (text .entry))) ⌝ }
 {
     if weight <= value {
-        put(48 + (value / weight % 10) as u8, text, place)
+        put(48 + (value / weight % base) as u8, text, place)
     } else {
         place
     }
@@ -43,10 +43,10 @@ fn put_figure(value: u32, weight: u32, text: &mut [u8], place: usize) -> usize
 pub fn put_decimal(value: u32, text: &mut [u8], place: usize) -> usize
     ensures { λ r. ⌜ filled r (now (text .exit)) ≡ puts (decimal value) (filled place (now (text .entry))) ⌝ }
 {
-    let thousands = put_figure(value, 10000, text, place);
-    let hundreds = put_figure(value, 1000, text, thousands);
-    let tens = put_figure(value, 100, text, hundreds);
-    let ones = put_figure(value, 10, text, tens);
+    let thousands = put_figure(10, value, 10000, text, place);
+    let hundreds = put_figure(10, value, 1000, text, thousands);
+    let tens = put_figure(10, value, 100, text, hundreds);
+    let ones = put_figure(10, value, 10, text, tens);
     put(48 + (value % 10) as u8, text, ones)
 }
 
@@ -56,6 +56,16 @@ pub fn put_number(value: u32, end: u8, text: &mut [u8], place: usize) -> usize
 {
     let at = put_decimal(value, text, place);
     put(end, text, at)
+}
+
+// A number below 4,096 in octal.
+pub fn put_octal(value: u16, text: &mut [u8], place: usize) -> usize
+    ensures { λ r. ⌜ filled r (now (text .exit)) ≡ puts (octal value) (filled place (now (text .entry))) ⌝ }
+{
+    let hundreds = put_figure(8, value as u32, 512, text, place);
+    let tens = put_figure(8, value as u32, 64, text, hundreds);
+    let ones = put_figure(8, value as u32, 8, text, tens);
+    put(48 + (value % 8) as u8, text, ones)
 }
 
 // One octal digit of a number, by its weight.

@@ -9,8 +9,8 @@ use Rattle.text.proofs.put_decimal.Statement.{statement}
 use Rattle.text.proofs.put_decimal.Tie as tie
 
 -- figure behind figure
-by : (n : ℕ) (f : Filled) {g₁ g₂ g₃ g₄ g₅ : Filled} → g₁ ≡ puts (figure n 10000) f → g₂ ≡ puts (figure n 1000) g₁ → g₃ ≡ puts (figure n 100) g₂ →
-    g₄ ≡ puts (figure n 10) g₃ → g₅ ≡ puts (digit n ∷ []) g₄ → g₅ ≡ puts (decimal n) f
+by : (n : ℕ) (f : Filled) {g₁ g₂ g₃ g₄ g₅ : Filled} → g₁ ≡ puts (figure 10 n 10000) f → g₂ ≡ puts (figure 10 n 1000) g₁ → g₃ ≡ puts (figure 10 n 100) g₂ →
+    g₄ ≡ puts (figure 10 n 10) g₃ → g₅ ≡ puts (digit 10 n ∷ []) g₄ → g₅ ≡ puts (decimal n) f
 unfolding decimal
 by n f p₁ p₂ p₃ p₄ p₅ = behind _ _ _ (behind _ _ _ (behind _ _ _ (behind _ _ _ p₁ p₂) p₃) p₄) p₅
 

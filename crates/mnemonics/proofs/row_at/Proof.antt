@@ -1,0 +1,20 @@
+-- `mnemonics::row_at` meets its promise: the constant is the row of the definition as one number, taken apart. Assumes nothing.
+use mathlib.Core.List.{map}
+use lib.ListN.{List·getD-map}
+use borrow.Author.Needs.{needs}
+use Rattle.mnemonics.specs.Mnemonics.{rows, noRow}
+use Rattle.mnemonics.proofs.Table.{packed, unpacked}
+use Rattle.mnemonics.proofs.row_at.Statement.{statement}
+use Rattle.mnemonics.proofs.row_at.Tie as tie
+
+pub row-at-spec : {M : Type 1} → statement M
+unfolding rows
+row-at-spec =
+    tie.close
+    (tie.spec
+    (λ c. search needs)
+    (λ c. search needs)
+    (λ c. search needs)
+    (λ c. search needs)
+    (λ c. search needs)
+    (λ c. unpacked (c .args .i) (List·getD-map packed rows (c .args .i) noRow)))

@@ -1,0 +1,4 @@
+pub mod Beginnings
+pub mod Passing
+pub mod Answers
+pub mod Belonging

@@ -1,0 +1,3 @@
+pub mod Unlisting
+pub mod Passes
+pub mod Together

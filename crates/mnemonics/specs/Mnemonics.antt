@@ -1,12 +1,12 @@
 -- No. 2 of 02, the manual's mnemonics: the table of its names and values, kept once, and what of it stands on the line of a control word. Assumes nothing.
-use Prim.Native.Nat.{ℕ, _+_, _-_}
+use Prim.Native.Nat.{ℕ, _+_, _-_, _%_}
 use Prim.Native.String.{String}
 use mathlib.Core.Path.{_≡_}
 use mathlib.Core.Bool.{Bool, true, false, not, _&&_, _||_}
 use mathlib.Core.List.{List, [], _∷_, _++_}
 use lib.Bits.{bitAnd}
 use lib.Dec.{eqb, ltb}
-use lib.ListN.{getD}
+use lib.ListN.{getD, drop}
 use Rattle.words.specs.Words.{bit, bits, weight, pick}
 use Rattle.text.specs.Text.{bytes, octal}
 use Rattle.mnemonics.specs.declared.Pattern.{Pattern}
@@ -63,8 +63,8 @@ abbrev buttons : ℕ
 buttons = firstBank + secondBank
 
 -- THE TABLE (manual, table A3-3): a name, filled up with spaces to five bytes; its octal value, whose 1 bits it covers; the bits of a word that are looked
--- at, the enable bit of a scale, pen, mode or intensity among them; and the kinds of word that it stands in. Base names come first, the others by falling
--- bit (02, No. 2)
+-- at, the enable bit of a scale, pen, mode or intensity among them; and the kinds of word that it stands in. The 11 base names come first, then the modifiers
+-- by falling bit (02, No. 2)
 
 pub record Row : Type 0 where
   pub name : List ℕ
@@ -163,6 +163,29 @@ distinct (r ∷ rs) = unlike r rs && distinct rs
 
 abbrev pub Distinct : Type 0
 Distinct = distinct rows ≡ true
+
+-- MODIFIERS BY FALLING BIT: one more test over all rows but the 11 base names
+
+-- some word has both: a kind in common, and no bit that both look at and want otherwise
+unfoldable pub together : Pattern → Pattern → Bool
+together p q =
+    let looked = bitAnd (p .mask) (q .mask) in
+    not (eqb (bitAnd (p .kinds) (q .kinds)) 0) && eqb (bitAnd (p .value) looked) (bitAnd (q .value) looked)
+
+-- then the value without its op code falls from the one that comes first to the other
+unfoldable pub before : Pattern → Pattern → Bool
+before p q = not (together p q) || ltb (q .value % 512) (p .value % 512)
+
+unfoldable pub beforeAll : Row → List Row → Bool
+beforeAll r [] = true
+beforeAll r (q ∷ qs) = before (r .pattern) (q .pattern) && beforeAll r qs
+
+unfoldable pub falling : List Row → Bool
+falling [] = true
+falling (r ∷ rs) = beforeAll r rs && falling rs
+
+abbrev pub Falling : Type 0
+Falling = falling (drop 11 rows) ≡ true
 
 -- WHAT STANDS ON THE LINE OF A CONTROL WORD
 

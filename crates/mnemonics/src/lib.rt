@@ -3,7 +3,7 @@ ghost use mathlib.Core.Path.{_≡_};
 ghost use Prim.Native.Nat.{_+_, _<_};
 ghost use mathlib.Core.List.{[], _∷_};
 ghost use Rattle.text.specs.Text.{filled, puts};
-ghost use Rattle.mnemonics.specs.Mnemonics.{rowAt, kind, applies, letters, name, names, uncovered, rest, restField, mnemonics, Distinct};
+ghost use Rattle.mnemonics.specs.Mnemonics.{rowAt, kind, applies, letters, name, names, uncovered, rest, restField, mnemonics, Distinct, Falling};
 
 // How many rows the table has.
 const ROWS: usize = 55;
@@ -212,4 +212,9 @@ pub fn put_mnemonics(word: u16, text: &mut [u8], place: usize) -> usize
 // No two rows are alike. It does nothing: its promise is the test of all rows, so that a check names it.
 pub fn distinct()
     ensures { λ _. ⌜ Distinct ⌝ }
+{}
+
+// The modifiers of any word stand by falling bit, by a test of all rows.
+pub fn falling()
+    ensures { λ _. ⌜ Falling ⌝ }
 {}

@@ -40,8 +40,8 @@ fn numbers_of(registers: &Registers) -> Vec<u16> {
         operand: 0,
     };
     let line = write_case(&case);
-    line.split(' ')
-        .filter_map(|number| number.parse().ok())
+    line.split(|byte| *byte == b' ')
+        .filter_map(|number| std::str::from_utf8(number).ok()?.parse().ok())
         .collect()
 }
 

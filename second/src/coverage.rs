@@ -4,13 +4,16 @@ use std::collections::HashMap;
 use std::fmt;
 
 use crate::data_words::{x_dimension, y_dimension};
-use crate::generate::{next_case, Chance};
+use crate::generate::{
+    next_case_and_change, Chance, DAMAGES, OTHER_MODE, OTHER_RANGE, OTHER_STATE, RIGHT,
+};
 use crate::host_operations::operate;
+use crate::listing::{ListingRefusal, Part, Place, MNEMONICS};
 use crate::refusals_and_endings::{Answer, Ending, Loan, MEMORY_LENGTH};
 use crate::registers::{
     address_after, pointer_after, pointer_before, Motion, Registers, Side, State,
 };
-use crate::replay::{Case, RunCase};
+use crate::replay::{Case, GivenMemory, ListCase, ReadCase, RunCase};
 use crate::turn::run;
 use crate::words::{bit, field, GREATEST_WORD};
 
@@ -79,7 +82,16 @@ impl fmt::Display for Coverage {
 
 const STEPWISE_DIFFERS: &str = "run differs from its beats one by one (should be 0)";
 const TOLD_DIFFERS: &str = "fence tells another touch than the first barred one (should be 0)";
-const SHOULD_BE_0: [&str; 2] = [STEPWISE_DIFFERS, TOLD_DIFFERS];
+const NOT_READ_BACK: &str = "listing not read back to its words (should be 0)";
+const NOT_LISTED_SO: &str = "reading accepted of a text that its words do not list (should be 0)";
+const REFUSAL_WROTE: &str = "refused reading that changed a word (should be 0)";
+const SHOULD_BE_0: [&str; 5] = [
+    STEPWISE_DIFFERS,
+    TOLD_DIFFERS,
+    NOT_READ_BACK,
+    NOT_LISTED_SO,
+    REFUSAL_WROTE,
+];
 
 const OPERATIONS: [u32; 19] = [
     1, 2, 3, 4, 5, 6, 7, 8, 9, 10, 11, 12, 20, 21, 22, 23, 24, 25, 26,
@@ -109,7 +121,9 @@ const LOANS: [&str; 6] = [
 ];
 
 fn row_names() -> Vec<String> {
-    let mut names: Vec<String> = vec!["cases".into(), "operations".into(), "runs".into()];
+    let mut names: Vec<String> = ["cases", "operations", "runs", "listings", "readings"]
+        .map(String::from)
+        .to_vec();
     for refusal in 4..=6 {
         names.push(format!("operation refused {refusal}"));
     }
@@ -209,7 +223,101 @@ fn row_names() -> Vec<String> {
     ] {
         names.push(what.into());
     }
+    names.extend(listing_row_names());
+    names.extend(reading_row_names());
     names.extend(SHOULD_BE_0.map(String::from));
+    names
+}
+
+fn listing_row_names() -> Vec<String> {
+    let mut names = vec!["listing accepted".into()];
+    for refusal in [1, 3, 6, 24, 23] {
+        names.push(format!("listing refused {refusal}"));
+    }
+    for what in [
+        "3, low above high",
+        "3, high above 32,768",
+        "6, state above 1",
+        "6, mode above 7",
+        "23, one byte short",
+        "23, text list of no bytes",
+    ] {
+        names.push(format!("listing refused {what}"));
+    }
+    for what in [
+        "of no words",
+        "of one word",
+        "of a page of 128 words",
+        "of 4,096 words",
+        "up to the end of memory",
+        "with a text list that just fits",
+        "with a longer text list",
+        "with a word above 4,095 outside the range",
+    ] {
+        names.push(format!("listing {what}"));
+    }
+    for state in ["control", "data"] {
+        for mode in 0..=7 {
+            names.push(format!("listing from {state} state, mode {mode}"));
+        }
+    }
+    for kind in CONTROL_WORDS {
+        names.push(format!("control word {kind} listed"));
+    }
+    for mnemonic in MNEMONICS {
+        names.push(format!("mnemonic {} listed", mnemonic.name));
+    }
+    for what in [
+        "control word with names and a rest",
+        "control word with a rest alone",
+        "control word with neither name nor rest",
+        "second word of a jump",
+    ] {
+        names.push(format!("{what} listed"));
+    }
+    for mode in 0..=7 {
+        names.push(format!("data word listed, mode {mode}"));
+    }
+    for mode in [0, 2, 3] {
+        names.push(format!("second data word listed, mode {mode}"));
+    }
+    for mode in [0, 1, 2, 3, 4, 6] {
+        names.push(format!("escape in a listing, mode {mode}"));
+    }
+    names
+}
+
+fn reading_row_names() -> Vec<String> {
+    let mut names = vec!["reading accepted".into()];
+    for refusal in [1, 3, 6, 7] {
+        names.push(format!("reading refused {refusal}"));
+    }
+    for change in [RIGHT, OTHER_STATE, OTHER_MODE] {
+        names.push(format!("reading accepted, {change}"));
+    }
+    names.push("reading accepted, damaged".into());
+    for change in [OTHER_STATE, OTHER_MODE, OTHER_RANGE] {
+        names.push(format!("reading refused 7, {change}"));
+    }
+    for (damage, _) in DAMAGES {
+        names.push(format!("reading refused 7, {damage}"));
+    }
+    for what in [
+        "the first line",
+        "a later line",
+        "a missing line",
+        "an unfinished line",
+        "a line too many",
+    ] {
+        names.push(format!("reading refused 7 at {what}"));
+    }
+    for what in [
+        "of no words",
+        "over a word above 4,095",
+        "of a word that was there already",
+    ] {
+        names.push(format!("reading {what}"));
+    }
     names
 }
 
@@ -219,7 +327,8 @@ pub fn coverage(seed: u64, count: u64) -> Coverage {
     let mut chance = Chance::new(seed);
     for _ in 0..count {
         coverage.count("cases");
-        match next_case(&mut chance) {
+        let (case, change) = next_case_and_change(&mut chance);
+        match case {
             Case::Operation {
                 registers,
                 operation,
@@ -228,6 +337,8 @@ pub fn coverage(seed: u64, count: u64) -> Coverage {
                 operation_reached(&mut coverage, registers, operation, operand);
             }
             Case::Run(case) => run_reached(&mut coverage, &case),
+            Case::List(case) => listing_reached(&mut coverage, &case),
+            Case::Read(case) => reading_reached(&mut coverage, &case, change.unwrap_or(RIGHT)),
         }
     }
     coverage
@@ -278,7 +389,10 @@ fn run_reached(coverage: &mut Coverage, case: &RunCase) {
     loan_reached(coverage, case.loan);
     coverage.count_if(case.room == 0, "room 0");
     coverage.count_if(case.room == 1, "room 1");
-    coverage.count_if(case.default > GREATEST_WORD, "default word above 4,095");
+    coverage.count_if(
+        case.given.default > GREATEST_WORD,
+        "default word above 4,095",
+    );
 
     let stepwise = case.outcome(|registers, memory, points| {
         beat_by_beat(coverage, case, registers, memory, points)
@@ -403,14 +517,9 @@ fn beat_reached(
     }
 }
 
-fn control_word_reached(
-    coverage: &mut Coverage,
-    before: &Registers,
-    after: &Registers,
-    words: [u16; 2],
-) {
-    let word = words[0];
-    let kind = match (field(word, 0, 2), field(word, 3, 5)) {
+/// One of `CONTROL_WORDS`.
+fn control_word_kind(word: u16) -> &'static str {
+    match (field(word, 0, 2), field(word, 3, 5)) {
         (0, _) => "0",
         (1, _) => "1",
         (2, _) if bit(word, 8) => "2 push",
@@ -424,7 +533,17 @@ fn control_word_reached(
         (6, 3) => "63",
         (6, _) => "64-67",
         _ => "7",
-    };
+    }
+}
+
+fn control_word_reached(
+    coverage: &mut Coverage,
+    before: &Registers,
+    after: &Registers,
+    words: [u16; 2],
+) {
+    let word = words[0];
+    let kind = control_word_kind(word);
     coverage.count(&format!("control word {kind}"));
     let skipped = after.display_address == address_after(before.display_address, 3);
     let taken = if skipped { "skip taken" } else { "no skip" };
@@ -660,13 +779,202 @@ fn fence_reached(
     );
 }
 
+// ---------------------------------------------------------------- listings
+
+fn listing_reached(coverage: &mut Coverage, case: &ListCase) {
+    coverage.count("listings");
+    match case.outcome() {
+        Ok(text) => {
+            coverage.count("listing accepted");
+            listing_accepted(coverage, case, &text);
+        }
+        Err(refusal) => {
+            coverage.count(&format!("listing refused {}", refusal.number()));
+            listing_refused(coverage, case, refusal);
+        }
+    }
+}
+
+fn listing_refused(coverage: &mut Coverage, case: &ListCase, refusal: ListingRefusal) {
+    match refusal {
+        ListingRefusal::BadRange => {
+            let high_above = case.range.high > 32_768;
+            coverage.count_if(!high_above, "listing refused 3, low above high");
+            coverage.count_if(high_above, "listing refused 3, high above 32,768");
+        }
+        ListingRefusal::StateOrMode => {
+            coverage.count_if(case.state > 1, "listing refused 6, state above 1");
+            coverage.count_if(case.mode > 7, "listing refused 6, mode above 7");
+        }
+        ListingRefusal::TextListTooShort => {
+            let one_more = ListCase {
+                room: case.room + 1,
+                ..case.clone()
+            };
+            let is_one_short = one_more.outcome().is_ok();
+            coverage.count_if(is_one_short, "listing refused 23, one byte short");
+            coverage.count_if(case.room == 0, "listing refused 23, text list of no bytes");
+        }
+        _ => {}
+    }
+}
+
+fn listing_accepted(coverage: &mut Coverage, case: &ListCase, text: &[u8]) {
+    let range = case.range;
+    match range.high - range.low {
+        0 => coverage.count("listing of no words"),
+        1 => coverage.count("listing of one word"),
+        128 => coverage.count("listing of a page of 128 words"),
+        4_096 => coverage.count("listing of 4,096 words"),
+        _ => {}
+    }
+    coverage.count_if(range.high == 32_768, "listing up to the end of memory");
+    let just_fits = text.len() == case.room;
+    coverage.count_if(just_fits, "listing with a text list that just fits");
+    coverage.count_if(!just_fits, "listing with a longer text list");
+    let memory = case.given.words();
+    coverage.count_if(
+        memory.iter().any(|&word| word > GREATEST_WORD),
+        "listing with a word above 4,095 outside the range",
+    );
+    let state = if case.state == 0 { "control" } else { "data" };
+    let mode = case.mode;
+    coverage.count(&format!("listing from {state} state, mode {mode}"));
+
+    let words = &memory[usize::from(range.low)..usize::from(range.high)];
+    let text = String::from_utf8_lossy(text);
+    let mut place = Place::at_start(case.state, case.mode);
+    for (&word, line) in words.iter().zip(text.lines()) {
+        place = place.map(|place| {
+            line_reached(coverage, place, word, line);
+            place.after(word)
+        });
+    }
+
+    let reading = ReadCase {
+        range,
+        state: case.state,
+        mode: case.mode,
+        given: GivenMemory {
+            length: MEMORY_LENGTH,
+            default: 65_535,
+            pairs: Vec::new(),
+        },
+        text: text.as_bytes().to_vec(),
+    };
+    let (answer, read) = reading.outcome();
+    let same = &read[usize::from(range.low)..usize::from(range.high)] == words;
+    coverage.count_if(answer.is_err() || !same, NOT_READ_BACK);
+}
+
+fn line_reached(coverage: &mut Coverage, place: Place, word: u16, line: &str) {
+    let mode = place.mode;
+    match place.part {
+        Part::ControlWord => {
+            let kind = control_word_kind(word);
+            coverage.count(&format!("control word {kind} listed"));
+            let fields: Vec<&str> = line.split(' ').skip(2).collect();
+            let names = fields
+                .iter()
+                .filter(|field| field.starts_with(char::is_alphabetic));
+            let has_name = names.clone().next().is_some();
+            for name in names {
+                coverage.count(&format!("mnemonic {name} listed"));
+            }
+            let has_rest = fields
+                .last()
+                .is_some_and(|field| field.starts_with(char::is_numeric));
+            match (has_name, has_rest) {
+                (true, true) => coverage.count("control word with names and a rest listed"),
+                (false, true) => coverage.count("control word with a rest alone listed"),
+                (false, false) => {
+                    coverage.count("control word with neither name nor rest listed");
+                }
+                (true, false) => {}
+            }
+        }
+        Part::SecondOfJump => coverage.count("second word of a jump listed"),
+        Part::DataWord => coverage.count(&format!("data word listed, mode {mode}")),
+        Part::SecondOfData => coverage.count(&format!("second data word listed, mode {mode}")),
+    }
+    let in_data_state = matches!(place.part, Part::DataWord | Part::SecondOfData);
+    if in_data_state && place.after(word).part == Part::ControlWord {
+        coverage.count(&format!("escape in a listing, mode {mode}"));
+    }
+}
+
+fn reading_reached(coverage: &mut Coverage, case: &ReadCase, change: &str) {
+    coverage.count("readings");
+    let before = case.given.words();
+    let (answer, after) = case.outcome();
+    match answer {
+        Ok(()) => {
+            coverage.count("reading accepted");
+            coverage.count(&format!("reading accepted, {change}"));
+            let damaged = DAMAGES.iter().any(|&(damage, _)| damage == change);
+            coverage.count_if(damaged, "reading accepted, damaged");
+            reading_accepted(coverage, case, &before, &after);
+        }
+        Err(refusal) => {
+            coverage.count(&format!("reading refused {}", refusal.number()));
+            coverage.count_if(before != after, REFUSAL_WROTE);
+            if let ListingRefusal::LineNotInForm(line) = refusal {
+                coverage.count(&format!("reading refused 7, {change}"));
+                line_not_in_form_reached(coverage, case, line);
+            }
+        }
+    }
+}
+
+fn reading_accepted(coverage: &mut Coverage, case: &ReadCase, before: &[u16], after: &[u16]) {
+    let range = usize::from(case.range.low)..usize::from(case.range.high);
+    let (old, new) = (&before[range.clone()], &after[range]);
+    coverage.count_if(old.is_empty(), "reading of no words");
+    let over_wide = old.iter().any(|&word| word > GREATEST_WORD);
+    coverage.count_if(over_wide, "reading over a word above 4,095");
+    let was_there = old.iter().zip(new).any(|(old, new)| old == new);
+    coverage.count_if(was_there, "reading of a word that was there already");
+
+    let listing = ListCase {
+        range: case.range,
+        state: case.state,
+        mode: case.mode,
+        room: case.text.len(),
+        given: GivenMemory {
+            length: MEMORY_LENGTH,
+            default: 65_535,
+            pairs: (case.range.low..).zip(new.iter().copied()).collect(),
+        },
+    };
+    let same = listing.outcome().is_ok_and(|text| text == case.text);
+    coverage.count_if(!same, NOT_LISTED_SO);
+}
+
+fn line_not_in_form_reached(coverage: &mut Coverage, case: &ReadCase, line: u32) {
+    let words = u32::from(case.range.high - case.range.low);
+    let finished = case.text.iter().filter(|&&byte| byte == b'\n').count() as u32;
+    let has_unfinished = case.text.last().is_some_and(|&byte| byte != b'\n');
+    let what = if line > words {
+        "a line too many"
+    } else if line <= finished && line == 1 {
+        "the first line"
+    } else if line <= finished {
+        "a later line"
+    } else if has_unfinished {
+        "an unfinished line"
+    } else {
+        "a missing line"
+    };
+    coverage.count(&format!("reading refused 7 at {what}"));
+}
+
 #[cfg(test)]
 mod tests {
     use super::*;
 
     #[test]
     fn a_few_thousand_cases_reach_every_row() {
-        let coverage = coverage(1, 6_000);
+        let coverage = coverage(1, 9_000);
         assert_eq!(coverage.never_reached(), Vec::<&str>::new());
         assert_eq!(coverage.wrongly_reached(), Vec::<&str>::new());
     }

@@ -1,5 +1,11 @@
-//! A seeded generator of cases: plausible display files, wild ones and ones at the fence, biased to
-//! the corners.
+//! A seeded generator of cases: plausible display files, wild ones and ones at the fence, words to
+//! list and listings to read, biased to the corners.
+
+mod listings;
+
+pub use listings::{
+    cases_of_all_memory, cases_of_every_word, DAMAGES, OTHER_MODE, OTHER_RANGE, OTHER_STATE, RIGHT,
+};
 
 use crate::data_words::{x_dimension, y_dimension};
 use crate::refusals_and_endings::{Loan, LoanRange, MEMORY_LENGTH};
@@ -7,9 +13,9 @@ use crate::registers::{
     address_after, byte_moves, byte_of, pointer_after, pointer_before, Bytes, Line, Motion,
     Registers, Side, State,
 };
-use crate::replay::{Case, RunCase};
+use crate::replay::{Case, GivenMemory, RunCase};
 
-/// The most pairs a case line holds, so that a line stays short enough to read.
+/// The most pairs a line of a run holds, so that it stays short enough to read.
 const GREATEST_PAIRS: usize = 40;
 
 /// The splitmix64 generator: the same seed gives the same cases on every computer.
@@ -65,12 +71,23 @@ impl Chance {
 
 /// The next case of a stream.
 pub fn next_case(chance: &mut Chance) -> Case {
-    match chance.between(0, 99) {
-        0..=21 => operation_case(chance),
-        22..=56 => Case::Run(structured_run(chance)),
-        57..=89 => Case::Run(wild_run(chance)),
-        _ => Case::Run(fenced_run(chance)),
-    }
+    next_case_and_change(chance).0
+}
+
+/// The same, with what was done to the listing if the case reads one.
+pub fn next_case_and_change(chance: &mut Chance) -> (Case, Option<&'static str>) {
+    let case = match chance.between(0, 99) {
+        0..=19 => operation_case(chance),
+        20..=50 => Case::Run(structured_run(chance)),
+        51..=80 => Case::Run(wild_run(chance)),
+        81..=89 => Case::Run(fenced_run(chance)),
+        90..=93 => Case::List(listings::listing_case(chance)),
+        _ => {
+            let (case, change) = listings::reading_case(chance);
+            return (Case::Read(case), Some(change));
+        }
+    };
+    (case, None)
 }
 
 // ---------------------------------------------------------------- registers
@@ -809,9 +826,11 @@ fn structured_run(chance: &mut Chance) -> RunCase {
         budget: budget(chance),
         loan: loan(chance, first, words, registers.pushdown_pointer),
         room: room(chance),
-        memory_length,
-        default: default_word(chance),
-        pairs: kept_pairs(pairs, memory_length),
+        given: GivenMemory {
+            length: memory_length,
+            default: default_word(chance),
+            pairs: kept_pairs(pairs, memory_length),
+        },
     }
 }
 
@@ -904,9 +923,11 @@ fn wild_run(chance: &mut Chance) -> RunCase {
             registers.pushdown_pointer,
         ),
         room: room(chance),
-        memory_length,
-        default: default_word(chance),
-        pairs: kept_pairs(pairs, memory_length),
+        given: GivenMemory {
+            length: memory_length,
+            default: default_word(chance),
+            pairs: kept_pairs(pairs, memory_length),
+        },
     }
 }
 
@@ -968,9 +989,11 @@ fn fenced_run(chance: &mut Chance) -> RunCase {
             },
         },
         room: room(chance),
-        memory_length: MEMORY_LENGTH,
-        default: default_word(chance),
-        pairs: file.pairs(),
+        given: GivenMemory {
+            length: MEMORY_LENGTH,
+            default: default_word(chance),
+            pairs: file.pairs(),
+        },
     }
 }
 
@@ -1050,20 +1073,27 @@ mod tests {
             "-1",
             "op",
             "run",
+            "list",
+            "read",
+            ";",
+            "1500000",
+            "1500001",
         ];
-        let mut input = String::new();
+        let mut input = Vec::new();
         for _ in 0..3_000 {
             let line = write_case(&next_case(&mut chance));
-            let mut texts: Vec<&str> = line.split(' ').collect();
+            let mut texts: Vec<&[u8]> = line.split(|&byte| byte == b' ').collect();
+            // A listing may have very many texts; most of what is not its words comes first.
+            let places = texts.len().min(60) as u16;
             for _ in 0..chance.between(1, 3) {
-                let place = usize::from(chance.between(0, texts.len() as u16 - 1));
-                texts[place] = chance.pick(&odd);
+                let place = usize::from(chance.between(0, places - 1));
+                texts[place] = chance.pick(&odd).as_bytes();
             }
-            input.push_str(&texts.join(" "));
-            input.push('\n');
+            input.extend(texts.join(&b' '));
+            input.push(b'\n');
         }
         let mut output = Vec::new();
-        replay(input.as_bytes(), &mut output).unwrap();
+        replay(&input[..], &mut output).unwrap();
         let answers = String::from_utf8(output).unwrap();
         assert_eq!(answers.lines().count(), 3_000);
         assert!(answers.lines().any(|answer| answer.starts_with("error ")));

@@ -1,13 +1,15 @@
-//! A second simulator of the DEC 338 display, written from document 01, No. 1 of document 02 and
-//! the manual alone.
+//! A second simulator of the DEC 338 display, written from document 01, Nos. 1 and 2 of document 02
+//! and the manual alone.
 
 #![forbid(unsafe_code)]
 
-// The rules, a file to a section of document 01. They are private because each counts on the tests
-// that come before it; the calls `operate` and `run` make those tests and take any input.
+// The rules, a file to a section of document 01, and No. 2 of document 02. They are private because
+// each counts on the tests that come before it; the calls `operate`, `run`, `list_words` and
+// `read_listing` make those tests and take any input.
 mod control_words;
 mod data_words;
 mod host_operations;
+mod listing;
 mod refusals_and_endings;
 mod registers;
 mod turn;
@@ -20,6 +22,7 @@ pub mod practice;
 pub mod replay;
 
 pub use host_operations::operate;
+pub use listing::{list_words, read_listing, ListingRefusal};
 pub use refusals_and_endings::{Answer, Ending, Loan, LoanRange};
 pub use registers::{Bytes, Line, Motion, Registers, Side, State};
 pub use turn::run;

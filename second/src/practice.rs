@@ -1,6 +1,7 @@
 //! The practice program: lines of an address and a word in, the lit points and the ending out.
 
 use crate::refusals_and_endings::MEMORY_LENGTH;
+use crate::words::octal;
 use crate::{operate, run, Loan, Registers};
 
 /// 01, a practice program: "five octal digits, a space, four octal digits, a newline".
@@ -54,14 +55,6 @@ fn read_line(line: &[u8]) -> Option<(u16, u16)> {
         return None;
     }
     Some((octal(&line[..5])?, octal(&line[6..10])?))
-}
-
-/// The number that at most five octal digits say.
-fn octal(digits: &[u8]) -> Option<u16> {
-    digits.iter().try_fold(0, |number, digit| match digit {
-        b'0'..=b'7' => Some(number * 8 + u16::from(digit - b'0')),
-        _ => None,
-    })
 }
 
 /// 01: "It starts a fresh display at the first line's address, all memory else 0 and all lent".

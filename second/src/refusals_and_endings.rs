@@ -101,7 +101,7 @@ impl LoanRange {
     }
 
     /// 01, the table of refusals, row 3.
-    fn is_in_form(self) -> bool {
+    pub fn is_in_form(self) -> bool {
         self.low <= self.high && self.high <= GREATEST_LOAN_BOUND
     }
 }

@@ -4,6 +4,7 @@ use std::fmt::Write as _;
 use std::io::{self, BufRead, Write};
 
 use crate::host_operations::operate;
+use crate::listing::{list_words, read_listing, ListingRefusal};
 use crate::refusals_and_endings::{Answer, Loan, LoanRange};
 use crate::registers::{Bytes, Line, Motion, Registers, Side, State};
 use crate::turn::run;
@@ -11,12 +12,12 @@ use crate::turn::run;
 // The widths, which decide between `error N` (it does not fit) and a refusal (it fits but is out
 // of range). The format leaves them to the call's types; these are the types of this library:
 //   16 bits: addr ptr x y buttons cond, the line's magnitudes, n and k, the bytes' word and moves
-//            left, FLO FHI LLO LHI, DEFAULT, the pairs' addresses and words;
-//    8 bits: mode scale intensity;
+//            left, FLO FHI LLO LHI, LO HI, DEFAULT, the pairs' addresses and words;
+//    8 bits: mode scale intensity, STATE and MODE of a listing;
 //   32 bits: OP, OPERAND, BUDGET;
 //    1 bit:  state, every flag, signs, lit, escape, side;
-//   MOTION is 0, 1 or 2; MEMLEN is at most 32,769; ROOM at most 65,536; a pair's address is below
-//   MEMLEN; COUNT is the number of pairs that follow.
+//   MOTION is 0, 1 or 2; MEMLEN is at most 32,769; ROOM at most 65,536, or 1,500,000 bytes of text;
+//   a pair's address is below MEMLEN; COUNT is the number of pairs that follow.
 // A number is one or more of the digits 0 to 9. Leading zeros are accepted, as many as there are.
 const BIT: u64 = 1;
 const EIGHT_BITS: u64 = 255;
@@ -24,6 +25,8 @@ const SIXTEEN_BITS: u64 = 65_535;
 const THIRTY_TWO_BITS: u64 = 4_294_967_295;
 const GREATEST_MEMORY_LENGTH: u64 = 32_769;
 const GREATEST_ROOM: u64 = 65_536;
+/// More than the 32,768 longest lines of a listing have, 43 bytes each.
+const GREATEST_TEXT_ROOM: u64 = 1_500_000;
 
 /// One call with all that it is given.
 #[derive(Clone, Debug, PartialEq, Eq)]
@@ -34,30 +37,85 @@ pub enum Case {
         operand: u32,
     },
     Run(RunCase),
+    List(ListCase),
+    Read(ReadCase),
 }
 
-/// A run's call. The memory is `default` in each of its `memory_length` words but for the pairs.
+/// The memory of a case: `default` in each of its words but for the pairs.
+#[derive(Clone, Debug, PartialEq, Eq)]
+pub struct GivenMemory {
+    pub length: usize,
+    pub default: u16,
+    pub pairs: Vec<(u16, u16)>,
+}
+
+impl GivenMemory {
+    /// The words before the call, "a later pair winning".
+    pub fn words(&self) -> Vec<u16> {
+        let mut words = vec![self.default; self.length];
+        for &(address, word) in &self.pairs {
+            if let Some(place) = words.get_mut(usize::from(address)) {
+                *place = word;
+            }
+        }
+        words
+    }
+}
+
+/// The lister's call. `room` is the length of the text list in bytes.
+#[derive(Clone, Debug, PartialEq, Eq)]
+pub struct ListCase {
+    pub range: LoanRange,
+    pub state: u8,
+    pub mode: u8,
+    pub room: usize,
+    pub given: GivenMemory,
+}
+
+impl ListCase {
+    /// The text that the lister writes, or its refusal.
+    pub fn outcome(&self) -> Result<Vec<u8>, ListingRefusal> {
+        let mut text = vec![0; self.room];
+        let words = self.given.words();
+        let length = list_words(&words, self.range, self.state, self.mode, &mut text)?;
+        text.truncate(length);
+        Ok(text)
+    }
+}
+
+/// The reader's call. The format can say every text but one with the byte `|` in it, which stands
+/// for a newline, and the text `-`, which stands for none.
+#[derive(Clone, Debug, PartialEq, Eq)]
+pub struct ReadCase {
+    pub range: LoanRange,
+    pub state: u8,
+    pub mode: u8,
+    pub given: GivenMemory,
+    pub text: Vec<u8>,
+}
+
+impl ReadCase {
+    /// The reader's answer, and the memory that it leaves.
+    pub fn outcome(&self) -> (Result<(), ListingRefusal>, Vec<u16>) {
+        let mut words = self.given.words();
+        let answer = read_listing(&mut words, self.range, self.state, self.mode, &self.text);
+        (answer, words)
+    }
+}
+
+/// A run's call.
 #[derive(Clone, Debug, PartialEq, Eq)]
 pub struct RunCase {
     pub registers: Registers,
     pub budget: u32,
     pub loan: Loan,
     pub room: usize,
-    pub memory_length: usize,
-    pub default: u16,
-    pub pairs: Vec<(u16, u16)>,
+    pub given: GivenMemory,
 }
 
 impl RunCase {
-    /// The memory before the run, "a later pair winning".
     pub fn memory(&self) -> Vec<u16> {
-        let mut memory = vec![self.default; self.memory_length];
-        for &(address, word) in &self.pairs {
-            if let Some(place) = memory.get_mut(usize::from(address)) {
-                *place = word;
-            }
-        }
-        memory
+        self.given.words()
     }
 
     /// What a run of the case leaves, made on lists of its own.
@@ -97,10 +155,16 @@ pub struct Outcome {
 
 /// The numbers of a line, taken one by one. `None` means that the line is no case.
 struct Numbers<'a> {
-    texts: std::str::Split<'a, char>,
+    texts: std::slice::Split<'a, u8, fn(&u8) -> bool>,
 }
 
 impl<'a> Numbers<'a> {
+    fn of(line: &'a [u8]) -> Numbers<'a> {
+        Numbers {
+            texts: line.split(|&byte| byte == b' '),
+        }
+    }
+
     /// Two spaces, or one at either end, leave an empty text, which is no number.
     fn next(&mut self, greatest: u64) -> Option<u64> {
         let text = self.texts.next()?;
@@ -108,8 +172,8 @@ impl<'a> Numbers<'a> {
             return None;
         }
         let mut value = 0;
-        for character in text.chars() {
-            value = value * 10 + u64::from(character.to_digit(10)?);
+        for &byte in text {
+            value = value * 10 + u64::from(char::from(byte).to_digit(10)?);
             // Tested at each digit, so that no number of digits can overflow.
             if value > greatest {
                 return None;
@@ -217,27 +281,59 @@ impl<'a> Numbers<'a> {
             list: self.loan_range()?,
         };
         let room = self.next(GREATEST_ROOM)? as usize;
-        let memory_length = self.next(GREATEST_MEMORY_LENGTH)? as usize;
-        let default = self.sixteen_bits()?;
-        let count = self.thirty_two_bits()?;
-        let mut pairs = Vec::new();
-        for _ in 0..count {
-            let address = self.sixteen_bits()?;
-            if usize::from(address) >= memory_length {
-                return None;
-            }
-            pairs.push((address, self.sixteen_bits()?));
-        }
+        let given = self.given_memory()?;
         self.end()?;
         Some(RunCase {
             registers,
             budget,
             loan,
             room,
-            memory_length,
+            given,
+        })
+    }
+
+    fn given_memory(&mut self) -> Option<GivenMemory> {
+        let length = self.next(GREATEST_MEMORY_LENGTH)? as usize;
+        let default = self.sixteen_bits()?;
+        let count = self.thirty_two_bits()?;
+        let mut pairs = Vec::new();
+        for _ in 0..count {
+            let address = self.sixteen_bits()?;
+            if usize::from(address) >= length {
+                return None;
+            }
+            pairs.push((address, self.sixteen_bits()?));
+        }
+        Some(GivenMemory {
+            length,
             default,
             pairs,
         })
+    }
+
+    fn list_case(&mut self) -> Option<ListCase> {
+        let case = ListCase {
+            range: self.loan_range()?,
+            state: self.eight_bits()?,
+            mode: self.eight_bits()?,
+            room: self.next(GREATEST_TEXT_ROOM)? as usize,
+            given: self.given_memory()?,
+        };
+        self.end()?;
+        Some(case)
+    }
+
+    /// The numbers of a reading, with the text that stands behind them.
+    fn read_case(&mut self, text: Vec<u8>) -> Option<ReadCase> {
+        let case = ReadCase {
+            range: self.loan_range()?,
+            state: self.eight_bits()?,
+            mode: self.eight_bits()?,
+            given: self.given_memory()?,
+            text,
+        };
+        self.end()?;
+        Some(case)
     }
 
     fn operation_case(&mut self) -> Option<Case> {
@@ -252,19 +348,53 @@ impl<'a> Numbers<'a> {
 }
 
 /// The case that a line (without its newline) says, or `None` if it is no case.
-pub fn read_case(line: &str) -> Option<Case> {
-    let mut numbers = Numbers {
-        texts: line.split(' '),
-    };
+pub fn read_case(line: &(impl AsRef<[u8]> + ?Sized)) -> Option<Case> {
+    let line = line.as_ref();
+    let mut numbers = Numbers::of(line);
     match numbers.texts.next()? {
-        "op" => numbers.operation_case(),
-        "run" => Some(Case::Run(numbers.run_case()?)),
+        b"op" => numbers.operation_case(),
+        b"run" => Some(Case::Run(numbers.run_case()?)),
+        b"list" => Some(Case::List(numbers.list_case()?)),
+        b"read" => {
+            let (before, text) = split_text(line)?;
+            let mut numbers = Numbers::of(before);
+            numbers.texts.next()?;
+            Some(Case::Read(numbers.read_case(text)?))
+        }
         _ => None,
     }
 }
 
-/// The line of a case, without its newline.
-pub fn write_case(case: &Case) -> String {
+/// The numbers of a reading's line, and its text: "the rest of the line behind `; `, with `|` for
+/// each newline; `-` alone, or nothing, is the empty text". No number has a `;`, so the first one
+/// is the one before the text.
+fn split_text(line: &[u8]) -> Option<(&[u8], Vec<u8>)> {
+    let mark = line.iter().position(|&byte| byte == b';')?;
+    let before = line[..mark].strip_suffix(b" ")?;
+    let text = match &line[mark + 1..] {
+        [] | [b' ', b'-'] => Vec::new(),
+        [b' ', text @ ..] => text
+            .iter()
+            .map(|&byte| if byte == b'|' { b'\n' } else { byte })
+            .collect(),
+        _ => return None,
+    };
+    Some((before, text))
+}
+
+/// A text as the format writes it.
+fn write_text(text: &[u8]) -> Vec<u8> {
+    if text.is_empty() {
+        return b"-".to_vec();
+    }
+    text.iter()
+        .map(|&byte| if byte == b'\n' { b'|' } else { byte })
+        .collect()
+}
+
+/// The line of a case, without its newline. A listing that is read may have any byte, so the line
+/// is bytes.
+pub fn write_case(case: &Case) -> Vec<u8> {
     let mut line = String::new();
     match case {
         Case::Operation {
@@ -286,16 +416,41 @@ pub fn write_case(case: &Case) -> String {
                 number(&mut line, range.high);
             }
             number(&mut line, case.room as u32);
-            number(&mut line, case.memory_length as u32);
-            number(&mut line, case.default);
-            number(&mut line, case.pairs.len() as u32);
-            for &(address, word) in &case.pairs {
-                number(&mut line, address);
-                number(&mut line, word);
-            }
+            write_given_memory(&mut line, &case.given);
+        }
+        Case::List(case) => {
+            line.push_str("list");
+            write_start(&mut line, case.range, case.state, case.mode);
+            number(&mut line, case.room as u32);
+            write_given_memory(&mut line, &case.given);
+        }
+        Case::Read(case) => {
+            line.push_str("read");
+            write_start(&mut line, case.range, case.state, case.mode);
+            write_given_memory(&mut line, &case.given);
+            line.push_str(" ; ");
+            return [line.into_bytes(), write_text(&case.text)].concat();
         }
     }
-    line
+    line.into_bytes()
+}
+
+/// The range, the starting state and the mode of a listing.
+fn write_start(line: &mut String, range: LoanRange, state: u8, mode: u8) {
+    number(line, range.low);
+    number(line, range.high);
+    number(line, state);
+    number(line, mode);
+}
+
+fn write_given_memory(line: &mut String, given: &GivenMemory) {
+    number(line, given.length as u32);
+    number(line, given.default);
+    number(line, given.pairs.len() as u32);
+    for &(address, word) in &given.pairs {
+        number(line, address);
+        number(line, word);
+    }
 }
 
 /// The answer to a case, without its newline.
@@ -314,7 +469,36 @@ pub fn answer_case(case: &Case) -> String {
             line
         }
         Case::Run(case) => answer_run(case),
+        Case::List(case) => answer_list(case),
+        Case::Read(case) => answer_read(case),
     }
+}
+
+fn answer_list(case: &ListCase) -> String {
+    let (refusal, text) = match case.outcome() {
+        Ok(text) => (None, text),
+        Err(refusal) => (Some(refusal), Vec::new()),
+    };
+    let mut line = String::from("list");
+    write_refusal(&mut line, refusal);
+    line.push(' ');
+    // The bytes of a listing are all of the ASCII code.
+    line.extend(write_text(&text).into_iter().map(char::from));
+    line
+}
+
+fn answer_read(case: &ReadCase) -> String {
+    let (answer, memory) = case.outcome();
+    let mut line = String::from("read");
+    write_refusal(&mut line, answer.err());
+    write_changes(&mut line, &case.given.words(), &memory);
+    line
+}
+
+/// The refusal's number, 0 for none, and its line, 0 for none.
+fn write_refusal(line: &mut String, refusal: Option<ListingRefusal>) {
+    number(line, refusal.map_or(0, ListingRefusal::number));
+    number(line, refusal.map_or(0, ListingRefusal::line));
 }
 
 fn answer_run(case: &RunCase) -> String {
@@ -336,14 +520,20 @@ fn answer_run(case: &RunCase) -> String {
     for &point in points.iter().take(answer.points as usize) {
         number(&mut line, point);
     }
+    write_changes(&mut line, &case.memory(), &memory);
+    line
+}
+
+/// "after `M` each memory word that differs from what it was, by rising address, with its new
+/// value".
+fn write_changes(line: &mut String, before: &[u16], after: &[u16]) {
     line.push_str(" M");
-    for (address, (old, new)) in case.memory().iter().zip(&memory).enumerate() {
+    for (address, (old, new)) in before.iter().zip(after).enumerate() {
         if old != new {
-            number(&mut line, address as u32);
-            number(&mut line, *new);
+            number(line, address as u32);
+            number(line, *new);
         }
     }
-    line
 }
 
 fn number(line: &mut String, value: impl Into<u32>) {
@@ -414,10 +604,7 @@ pub fn replay(mut input: impl BufRead, mut output: impl Write) -> io::Result<()>
             return output.flush();
         }
         line_number += 1;
-        let case = line
-            .strip_suffix(b"\n")
-            .and_then(|bytes| std::str::from_utf8(bytes).ok())
-            .and_then(read_case);
+        let case = line.strip_suffix(b"\n").and_then(read_case);
         match case {
             Some(case) => writeln!(output, "{}", answer_case(&case))?,
             None => writeln!(output, "error {line_number}")?,
@@ -624,7 +811,193 @@ mod tests {
                 let memory = case.memory();
                 assert_eq!((memory[4], memory[5], memory.len()), (3, 7, 32_768));
             }
-            Case::Operation { .. } => panic!("a run was expected"),
+            _ => panic!("a run was expected"),
+        }
+    }
+
+    /// 01's example as a listing, and back.
+    const LISTING: &str = "00200 1101 POINT EDS|00201 4144|00202 4310|00203 1400 STOP|";
+
+    #[test]
+    fn words_are_listed() {
+        for (case, answer) in [
+            (
+                "128 132 0 0 100000 32768 0 4 128 577 129 2148 130 2248 131 768",
+                format!("0 0 {LISTING}"),
+            ),
+            // The text just fits, and is one byte too long.
+            (
+                "128 132 0 0 59 32768 0 4 128 577 129 2148 130 2248 131 768",
+                format!("0 0 {LISTING}"),
+            ),
+            (
+                "128 132 0 0 58 32768 0 4 128 577 129 2148 130 2248 131 768",
+                "23 0 -".into(),
+            ),
+            // From data state, and at the end of memory.
+            ("32767 32768 1 7 11 32768 768 0", "0 0 77777 1400|".into()),
+            // No words, no text.
+            ("5 5 0 0 0 32768 65535 0", "0 0 -".into()),
+            ("32768 32768 0 0 1500000 32768 0 0", "0 0 -".into()),
+            // The refusals in order.
+            ("1 0 2 8 0 32767 65535 0", "1 0 -".into()),
+            ("0 0 0 0 0 0 0 0", "1 0 -".into()),
+            ("1 0 2 8 0 32768 65535 0", "3 0 -".into()),
+            ("0 65535 2 8 0 32768 65535 0", "3 0 -".into()),
+            ("0 1 255 0 0 32768 65535 0", "6 0 -".into()),
+            ("0 1 1 255 0 32768 65535 0", "6 0 -".into()),
+            ("0 1 1 7 0 32768 65535 0", "24 0 -".into()),
+            ("0 1 1 7 0 32768 0 1 1 65535", "23 0 -".into()),
+        ] {
+            assert_eq!(
+                replayed(&format!("list {case}\n")),
+                format!("list {answer}\n"),
+                "{case}"
+            );
+        }
+    }
+
+    #[test]
+    fn listings_are_read() {
+        for (case, answer) in [
+            (
+                format!("128 132 0 0 32768 0 0 ; {LISTING}"),
+                "0 0 M 128 577 129 2148 130 2248 131 768",
+            ),
+            // A word that was there is no change, and a word that is too wide is not looked at.
+            (
+                format!("128 132 0 0 32768 65535 2 129 2148 131 0 ; {LISTING}"),
+                "0 0 M 128 577 130 2248 131 768",
+            ),
+            (format!("128 131 0 0 32768 0 0 ; {LISTING}"), "7 4 M"),
+            (format!("128 133 0 0 32768 0 0 ; {LISTING}"), "7 5 M"),
+            (format!("128 132 0 0 32768 0 0 ; {LISTING}|"), "7 5 M"),
+            (format!("128 132 0 0 32768 0 0 ; {LISTING};"), "7 5 M"),
+            (format!("128 132 1 0 32768 0 0 ; {LISTING}"), "7 1 M"),
+            // The refusals in order.
+            (format!("1 0 2 8 32769 0 0 ; {LISTING}"), "1 0 M"),
+            (format!("1 0 2 8 32768 0 0 ; {LISTING}"), "3 0 M"),
+            (format!("0 32769 2 8 32768 0 0 ; {LISTING}"), "3 0 M"),
+            (format!("0 1 2 7 32768 0 0 ; {LISTING}"), "6 0 M"),
+            (format!("0 1 1 8 32768 0 0 ; {LISTING}"), "6 0 M"),
+            (format!("0 1 1 7 32768 0 0 ; {LISTING}"), "7 1 M"),
+            // Three ways to write no text.
+            ("0 0 0 0 32768 0 0 ;".into(), "0 0 M"),
+            ("0 0 0 0 32768 0 0 ; ".into(), "0 0 M"),
+            ("0 0 0 0 32768 0 0 ; -".into(), "0 0 M"),
+            ("0 1 0 0 32768 0 0 ; -".into(), "7 1 M"),
+            // These are texts.
+            ("0 0 0 0 32768 0 0 ;  ".into(), "7 1 M"),
+            ("0 0 0 0 32768 0 0 ; - ".into(), "7 1 M"),
+            ("0 0 0 0 32768 0 0 ;  -".into(), "7 1 M"),
+            ("0 0 0 0 32768 0 0 ; |".into(), "7 1 M"),
+            ("0 0 0 0 32768 0 0 ; -|".into(), "7 1 M"),
+            ("0 1 0 0 32768 0 0 ; 00000 0000|\r".into(), "7 2 M"),
+        ] {
+            assert_eq!(
+                replayed(&format!("read {case}\n")),
+                format!("read {answer}\n"),
+                "{case}"
+            );
+        }
+    }
+
+    #[test]
+    fn a_text_may_have_any_byte() {
+        let mut output = Vec::new();
+        let input = b"read 0 1 0 0 32768 0 0 ; 00000 0000|\xff\nread \xff ; 00000 0000|\n";
+        replay(&input[..], &mut output).unwrap();
+        assert_eq!(output, b"read 7 2 M\nerror 2\n");
+    }
+
+    #[test]
+    fn a_line_with_the_longest_listing_is_taken() {
+        let listing: String = (0..32_768)
+            .map(|address| format!("{address:05o} 6277 SKIP SNSZ SPB1 SPB2 SLPSI CLPSI|"))
+            .collect();
+        assert_eq!(
+            replayed("list 0 32768 0 0 1409024 32768 3263 0\n"),
+            format!("list 0 0 {listing}\n")
+        );
+        assert_eq!(
+            replayed("list 0 32768 0 0 1409023 32768 3263 0\n"),
+            "list 23 0 -\n"
+        );
+        assert_eq!(
+            replayed(&format!("read 0 32768 0 0 32768 3263 1 9 0 ; {listing}\n")),
+            "read 0 0 M 9 3263\n"
+        );
+    }
+
+    #[test]
+    fn lines_that_are_no_case_of_a_listing() {
+        let good_list = "list 0 1 0 0 11 32768 0 1 5 6";
+        let good_read = "read 0 1 0 0 32768 0 1 5 6 ; 00000 0000|";
+        assert!(read_case(good_list).is_some());
+        assert!(read_case(good_read).is_some());
+        let leading_zeros = "list 00 01 00 000 0011 032768 00 01 05 06";
+        assert_eq!(read_case(leading_zeros), read_case(good_list));
+        let bad = [
+            "list".to_owned(),
+            "list ".into(),
+            "lis 0 1 0 0 11 32768 0 0".into(),
+            format!("{good_list} "),
+            format!(" {good_list}"),
+            format!("{good_list} 7"),
+            format!("{good_list}\r"),
+            format!("{good_list} ; -"),
+            good_list.replace("list ", "list  "),
+            good_list.replace("list ", "read "),
+            good_list.replace("0 1 0 0", "65536 1 0 0"),
+            good_list.replace("0 1 0 0", "0 65536 0 0"),
+            good_list.replace("0 1 0 0", "0 1 256 0"),
+            good_list.replace("0 1 0 0", "0 1 0 256"),
+            good_list.replace(" 11 ", " 1500001 "),
+            good_list.replace(" 32768 ", " 32770 "),
+            good_list.replace(" 32768 ", " 5 "),
+            good_list.replace(" 32768 0 ", " 32768 65536 "),
+            good_list.replace(" 1 5 6", " 2 5 6"),
+            good_list.replace(" 1 5 6", " 0 5 6"),
+            good_list.replace(" 1 5 6", " 1 5 65536"),
+            good_list.replace(" 1 5 6", " 1 32768 6"),
+            good_list.replace(" 1 5 6", ""),
+            "read".into(),
+            "read ".into(),
+            "read ;".into(),
+            "read ; -".into(),
+            "reads 0 1 0 0 32768 0 0 ; -".into(),
+            "run 0 1 0 0 32768 0 0 ; -".into(),
+            "read 0 1 0 0 32768 0 0".into(),
+            "read 0 1 0 0 32768 0 0 ".into(),
+            "read 0 1 0 0 32768 0 0;".into(),
+            "read 0 1 0 0 32768 0 0; -".into(),
+            "read 0 1 0 0 32768 0 0  ; -".into(),
+            "read 0 1 0 0 32768 0 0 ;-".into(),
+            "read 0 1 0 0 32768 0 0 ;\t-".into(),
+            "read 0 1 0 0 32768 0 ; 0 ; -".into(),
+            format!(" {good_read}"),
+            good_read.replace("read ", "list "),
+            good_read.replace("read 0 1 0 0", "read 65536 1 0 0"),
+            good_read.replace("read 0 1 0 0", "read 0 65536 0 0"),
+            good_read.replace("read 0 1 0 0", "read 0 1 256 0"),
+            good_read.replace("read 0 1 0 0", "read 0 1 0 256"),
+            good_read.replace("read 0 1 0 0", "read 0 1 0 0 11"),
+            good_read.replace(" 32768 ", " 32770 "),
+            good_read.replace(" 32768 0 ", " 32768 65536 "),
+            good_read.replace(" 1 5 6 ;", " 2 5 6 ;"),
+            good_read.replace(" 1 5 6 ;", " 0 5 6 ;"),
+            good_read.replace(" 1 5 6 ;", " 1 5 65536 ;"),
+            good_read.replace(" 1 5 6 ;", " 1 32768 6 ;"),
+        ];
+        for line in &bad {
+            assert_eq!(read_case(line), None, "{line:?}");
+        }
+        // The greatest numbers that a line may have.
+        for good in [
+            "list 65535 65535 255 255 1500000 32769 65535 1 32768 65535",
+            "read 65535 65535 255 255 32769 65535 1 32768 65535 ; -",
+        ] {
+            assert!(read_case(good).is_some(), "{good}");
         }
     }
 }

@@ -27,6 +27,17 @@ pub fn field(word: u16, first: u16, last: u16) -> u16 {
     (word >> (11 - last)) & ((1 << width) - 1)
 }
 
+/// The number that at most five octal digits say.
+pub fn octal(digits: &[u8]) -> Option<u16> {
+    if digits.len() > 5 {
+        return None;
+    }
+    digits.iter().try_fold(0, |number, digit| match digit {
+        b'0'..=b'7' => Some(number * 8 + u16::from(digit - b'0')),
+        _ => None,
+    })
+}
+
 #[cfg(test)]
 mod tests {
     use super::*;
@@ -49,5 +60,14 @@ mod tests {
         assert_eq!(field(0o1234, 0, 11), 0o1234);
         assert_eq!(field(0o1234, 9, 8), 0);
         assert_eq!(field(0o1234, 3, 12), 0);
+    }
+
+    #[test]
+    fn octal_digits_say_a_number() {
+        assert_eq!(octal(b"77777"), Some(0o77777));
+        assert_eq!(octal(b"0012"), Some(0o12));
+        assert_eq!(octal(b"8"), None);
+        assert_eq!(octal(b"1 "), None);
+        assert_eq!(octal(b"000000"), None);
     }
 }

@@ -1,35 +1,33 @@
-//! The program `generate`: cases of a seed on standard output, or a report of what they reach.
+//! The program `generate`: cases of a seed on standard output, or a report of what they reach, or
+//! every word and all of memory listed and read back.
 
 use std::io::{self, BufWriter, Write};
 use std::process::ExitCode;
 
 use second::coverage::coverage;
-use second::generate::{next_case, Chance};
-use second::replay::write_case;
+use second::generate::{cases_of_all_memory, cases_of_every_word, next_case, Chance};
+use second::replay::{write_case, Case};
 
-const USAGE: &str = "usage: generate [--report] SEED COUNT";
+const USAGE: &str = "usage: generate [--report] SEED COUNT\n       generate --words";
 
 fn main() -> ExitCode {
     let arguments: Vec<String> = std::env::args().skip(1).collect();
-    let report = arguments
-        .first()
-        .is_some_and(|argument| argument == "--report");
-    let numbers = if report {
-        &arguments[1..]
-    } else {
-        &arguments[..]
-    };
-    let (seed, count) = match numbers {
+    let texts: Vec<&str> = arguments.iter().map(String::as_str).collect();
+    let written = match texts[..] {
+        ["--words"] => write_cases(
+            cases_of_every_word()
+                .into_iter()
+                .chain(cases_of_all_memory()),
+        ),
+        ["--report", seed, count] => match (seed.parse(), count.parse()) {
+            (Ok(seed), Ok(count)) => write_report(seed, count),
+            _ => return usage(),
+        },
         [seed, count] => match (seed.parse(), count.parse()) {
-            (Ok(seed), Ok(count)) => (seed, count),
+            (Ok(seed), Ok(count)) => write_cases(cases_of_seed(seed, count)),
             _ => return usage(),
         },
         _ => return usage(),
-    };
-    let written = if report {
-        write_report(seed, count)
-    } else {
-        write_cases(seed, count)
     };
     match written {
         Ok(()) => ExitCode::SUCCESS,
@@ -49,11 +47,16 @@ fn write_report(seed: u64, count: u64) -> io::Result<()> {
     write!(io::stdout().lock(), "{}", coverage(seed, count))
 }
 
-fn write_cases(seed: u64, count: u64) -> io::Result<()> {
-    let mut output = BufWriter::new(io::stdout().lock());
+fn cases_of_seed(seed: u64, count: u64) -> impl Iterator<Item = Case> {
     let mut chance = Chance::new(seed);
-    for _ in 0..count {
-        writeln!(output, "{}", write_case(&next_case(&mut chance)))?;
+    (0..count).map(move |_| next_case(&mut chance))
+}
+
+fn write_cases(cases: impl Iterator<Item = Case>) -> io::Result<()> {
+    let mut output = BufWriter::new(io::stdout().lock());
+    for case in cases {
+        output.write_all(&write_case(&case))?;
+        output.write_all(b"\n")?;
     }
     output.flush()
 }

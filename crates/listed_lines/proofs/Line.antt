@@ -1,16 +1,14 @@
 -- A line fits a list of 346 bytes, and stands there whole. Assumes nothing.
 use Prim.Native.Nat.{ℕ, _≤_}
 use mathlib.Core.Path.{_≡_, refl, _∙_}
-use mathlib.Core.Bool.{Bool, true, false}
-use mathlib.Core.List.{List, [], _∷_, _++_}
+use mathlib.Core.Bool.{Bool}
+use mathlib.Core.List.{List}
 use native.Mathlib.Omega.{arith}
 use lib.ListN.{length, take, length-append}
 use lib.Seq.{take-append-seam}
-use Rattle.words.specs.Words.{pick}
 use Rattle.words.proofs.Laws.{pick-case}
 use Rattle.text.specs.Text.{Filled, filled, puts, whole, octalWord, octalAddress}
 use Rattle.text.proofs.Puts.{puts-whole}
-use Rattle.mnemonics.specs.Mnemonics.{mnemonics}
 use Rattle.mnemonics.proofs.Lengths.{length-mnemonics}
 use Rattle.listed_lines.specs.ListedLines.{fieldsOf, lineOf}
 

@@ -1,11 +1,10 @@
 -- What a call that 1, 3 and 6 do not refuse is given. Assumes nothing.
 use Prim.Native.Nat.{ℕ, _≤_}
 use mathlib.Core.Path.{_≡_}
-use mathlib.Core.Bool.{Bool, not, _&&_}
+use mathlib.Core.Bool.{not}
 use native.Mathlib.Omega.{arith}
-use lib.Dec.{eqb, leb}
+use lib.Dec.{eqb}
 use borrow.Author.Tests.{eqb-true, not-false}
-use Rattle.words.specs.Words.{pick}
 use Rattle.words.proofs.Laws.{pick-case}
 use Rattle.loan.specs.Loan.{fairRange}
 use Rattle.loan.proofs.Touches.{ordered}

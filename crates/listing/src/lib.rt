@@ -1,6 +1,5 @@
 // The listing of a range of words: a line a word, put into a lent list of bytes, or a refusal that writes nothing.
 ghost use mathlib.Core.Path.{_≡_};
-ghost use mathlib.Core.List.{List};
 ghost use Prim.Native.Nat.{_≤_};
 ghost use lib.ListN.{length};
 ghost use lib.Seq.{slice};

@@ -1,6 +1,6 @@
 -- How a name goes on from letter to letter, and names and rest from row to row. Assumes nothing.
 use Prim.Native.Nat.{ℕ, suc, _+_, _≤_, _<_}
-use mathlib.Core.Path.{_≡_, refl, sym, _∙_, ap}
+use mathlib.Core.Path.{_≡_, refl}
 use mathlib.Core.Bool.{Bool, true, false}
 use mathlib.Core.List.{List, [], _∷_, _++_}
 use native.Mathlib.Omega.{arith}
@@ -10,7 +10,7 @@ use lib.Seq.{drop-cons, drop-length}
 use Rattle.words.specs.Words.{pick}
 use Rattle.text.specs.Text.{Filled, puts}
 use Rattle.text.proofs.Puts.{behind}
-use Rattle.mnemonics.specs.Mnemonics.{Row, rows, rowAt, letters, name, namesIn, uncovered, restIn}
+use Rattle.mnemonics.specs.Mnemonics.{rows, rowAt, letters, name, namesIn, uncovered, restIn}
 use Rattle.mnemonics.proofs.Table.{rows-length}
 
 letters-cons : (b : ℕ) (bs : List ℕ) → letters (b ∷ bs) ≡ letters (b ∷ []) ++ letters bs

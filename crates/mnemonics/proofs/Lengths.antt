@@ -1,12 +1,11 @@
 -- How long what a line says of a word can be: at most six bytes for each row, and five for the rest. Assumes nothing.
-use Prim.Native.Nat.{ℕ, suc, _+_, _*_, _≤_}
+use Prim.Native.Nat.{ℕ, suc, _*_, _≤_}
 use mathlib.Core.Path.{_≡_}
-use mathlib.Core.Bool.{Bool, true}
+use mathlib.Core.Bool.{true}
 use mathlib.Core.List.{List, [], _∷_}
 use native.Mathlib.Omega.{arith}
 use lib.Dec.{eqb}
 use lib.ListN.{length, length-append}
-use Rattle.words.specs.Words.{pick}
 use Rattle.words.proofs.Laws.{pick-case, both}
 use Rattle.words.proofs.Tables.{every}
 use Rattle.text.proofs.Puts.{length-octal}

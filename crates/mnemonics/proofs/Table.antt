@@ -1,13 +1,11 @@
--- The code's constants are the rows of the definition: one test over all rows shows that each fits its numbers, and the laws of tables do the rest. Then how
--- names and rest go on from row to row. Assumes nothing.
-use Prim.Native.Nat.{ℕ, zero, suc, _+_, _*_, _/_, _%_, _≤_, _<_}
-use mathlib.Core.Path.{_≡_, refl, sym, _∙_, ap}
+-- The code's constants are the rows of the definition: one test over all rows shows that each fits its numbers, and the laws of tables do the rest. Assumes
+-- nothing.
+use Prim.Native.Nat.{ℕ, _+_, _*_, _/_, _%_, _<_}
+use mathlib.Core.Path.{_≡_, refl}
 use mathlib.Core.Bool.{Bool, true, _&&_}
-use mathlib.Core.List.{List, [], _∷_, _++_, map}
 use native.Mathlib.Omega.{arith}
 use lib.Dec.{ltb, eqb}
-use lib.ListN.{length, getD, drop, List·getD-map}
-use lib.Seq.{drop-cons, drop-length}
+use lib.ListN.{length, getD}
 use borrow.Author.Tests.{ltb-true, eqb-true}
 use Rattle.words.proofs.Laws.{both}
 use Rattle.words.proofs.Tables.{every, every-at, joined, joined-at}

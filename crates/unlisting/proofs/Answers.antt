@@ -5,7 +5,7 @@ use mathlib.Core.Bool.{Bool, true, false, _&&_}
 use mathlib.Core.List.{List}
 use native.Mathlib.Omega.{arith}
 use lib.Dec.{eqb}
-use lib.ListN.{length, drop, length-drop}
+use lib.ListN.{length, length-drop}
 use borrow.Author.Tests.{eqb-true, eqb-false, eq-eqb, ne-eqb}
 use Rattle.words.specs.Words.{pick}
 use Rattle.listed_lines.specs.declared.Standing.{Standing}
@@ -13,7 +13,7 @@ use Rattle.listed_lines.specs.ListedLines.{starting}
 use Rattle.listing.specs.Listing.{refusal}
 use Rattle.unlisting.specs.declared.Lines.{Lines}
 use Rattle.unlisting.specs.declared.Reading.the-variants.{Refused, NotInForm, Done}
-use Rattle.unlisting.specs.Unlisting.{Words, readLines, leaves, reading}
+use Rattle.unlisting.specs.Unlisting.{readLines, leaves, reading}
 use Rattle.unlisting.specs.Passes.{laidIf, LinesRead}
 
 pub refused : (s m : List ℕ) (low high state mode : ℕ) {n : ℕ} → n ≡ refusal (length m) low high state mode → (n ≡ 0 → ⊥) →

@@ -1,7 +1,7 @@
 -- Listing and reading belong together: lines that were listed are read back, and lines that are read are those that would be listed. Assumes nothing.
 use Prim.Native.Nat.{ℕ, zero, suc, _+_, _*_, _-_, _/_, _%_, _≤_, _<_}
 use mathlib.Core.Path.{_≡_, refl, sym, _∙_, ap}
-use mathlib.Core.Bool.{Bool, true, false, not, _&&_}
+use mathlib.Core.Bool.{Bool, true, not, _&&_}
 use mathlib.Core.List.{List, [], _∷_, _++_, append-assoc, append-nil}
 use native.Mathlib.Omega.{arith}
 use lib.Dec.{eqb, leb, ltb}
@@ -11,8 +11,10 @@ use borrow.Author.Tests.{leb-true, eqb-true, eq-eqb, le-leb, le-ltb, not-false}
 use Rattle.words.specs.Words.{pick}
 use Rattle.words.proofs.Laws.{pick-case, both}
 use Rattle.text.specs.Text.{octalWord, octalAddress}
+use Rattle.lines.specs.Lines.{four}
+use Rattle.lines.proofs.Reading.{four-small}
 use Rattle.listed_lines.specs.declared.Standing.{Standing}
-use Rattle.listed_lines.specs.ListedLines.{starting, after, shown, fieldsOf, lineOf}
+use Rattle.listed_lines.specs.ListedLines.{starting, after, shown, lineOf}
 use Rattle.listing.specs.declared.Listed.the-variants.{Refused, Done}
 use Rattle.listing.specs.Listing.{linesOf, text, good, refusal, ListLeft, leaves, listed}
 use Rattle.listing.proofs.Unrefused.{unrefused}
@@ -38,13 +40,9 @@ digits-back w h =
     weights w x y z p q r t = let e : z % 8 ≡ z = omega arith in rw e (omega (arith, p, q, r))
 
 word-of-line : (a w : ℕ) (shown : Bool) (rest : List ℕ) → w ≤ 4095 → wordIn (lineOf a w shown ++ rest) ≡ w
-unfolding lineOf octalAddress octalWord wordIn
+unfolding lineOf octalAddress octalWord four
 word-of-line a w shown rest h =
     rw (digit-back (w / 512), digit-back (w / 64), digit-back (w / 8), digit-back (w / 1)) (digits-back w h)
-
-word-small : (text : List ℕ) → wordIn text ≤ 4095
-unfolding wordIn
-word-small text = omega arith
 
 -- LINES
 
@@ -75,7 +73,7 @@ words-good zero a s t = refl
 words-good (suc k) a s t =
     let w = wordIn t in
     pick-case (λ (f : Words). good (f .words) ≡ true) (begins (lineOf a w (shown s)) t)
-    (λ _. rw (le-leb w 4095 (word-small t), words-good k (a + 1) (after s w) _))
+    (λ _. rw (le-leb w 4095 (omega (arith, four-small t 6 refl)), words-good k (a + 1) (after s w) _))
     (λ _. refl)
 
 -- WORDS OF A RANGE, laid into a memory

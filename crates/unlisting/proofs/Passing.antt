@@ -1,12 +1,12 @@
 -- How a pass goes on from line to line: what it found so far, followed by what the definition finds from here, is what the definition finds from the start.
 -- Assumes nothing.
-use Prim.Native.Nat.{ℕ, zero, suc, _+_, _-_, _≤_, _<_}
+use Prim.Native.Nat.{ℕ, suc, _+_, _-_, _≤_, _<_}
 use mathlib.Core.Path.{_≡_, refl, sym, _∙_, ap}
 use mathlib.Core.Bool.{Bool, true, false}
 use mathlib.Core.List.{List, [], _∷_, _++_}
 use native.Mathlib.Omega.{arith}
 use lib.ListN.{length, take, drop, length-append, length-drop}
-use lib.Seq.{sets, take-all, drop-drop}
+use lib.Seq.{take-all, drop-drop}
 use Rattle.words.specs.Words.{pick}
 use Rattle.words.proofs.Laws.{pick-case}
 use Rattle.text.specs.Text.{Filled}
@@ -15,7 +15,6 @@ use Rattle.listed_lines.specs.ListedLines.{after, shown, lineOf}
 use Rattle.listed_lines.proofs.Line.{Written}
 use Rattle.unlisting.specs.declared.Found.{Found}
 use Rattle.unlisting.specs.declared.Found.the-variants.{Line, Nothing}
-use Rattle.unlisting.specs.declared.Lines.{Lines}
 use Rattle.unlisting.specs.Unlisting.{begins, wordIn, Words, words, readLines}
 use Rattle.unlisting.specs.Passes.{lineIn, laidIf, LinesRead}
 use Rattle.unlisting.proofs.Beginnings.{begins-split}

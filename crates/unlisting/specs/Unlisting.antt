@@ -1,12 +1,12 @@
 -- No. 2 of 02, a listing read back. Assumes nothing.
-use Prim.Native.Nat.{ℕ, zero, suc, _+_, _*_, _-_}
+use Prim.Native.Nat.{ℕ, zero, suc, _+_, _-_}
 use mathlib.Core.Bool.{Bool, true, false, not, _&&_}
 use mathlib.Core.List.{List, [], _∷_}
 use lib.Dec.{eqb}
-use lib.ListN.{length, drop, getD}
+use lib.ListN.{length, drop}
 use lib.Seq.{sets}
 use Rattle.words.specs.Words.{pick}
-use Rattle.lines.specs.Lines.{digit}
+use Rattle.lines.specs.Lines.{word}
 use Rattle.listed_lines.specs.declared.Standing.{Standing}
 use Rattle.listed_lines.specs.ListedLines.{starting, after, shown, lineOf}
 use Rattle.listing.specs.declared.ListingNumbers.{ListingNumbers}
@@ -22,12 +22,9 @@ begins [] text = true
 begins (byte ∷ bytes) [] = false
 begins (byte ∷ bytes) (b ∷ text) = eqb byte b && begins bytes text
 
--- the word that a line is of: its four digits behind the address and a space
-abbrev pub digitAt : List ℕ → ℕ → ℕ
-digitAt text at = digit (getD text at 0)
-
-unfoldable pub wordIn : List ℕ → ℕ
-wordIn text = 512 * digitAt text 6 + 64 * digitAt text 7 + 8 * digitAt text 8 + digitAt text 9
+-- the word that a line is of: its four digits behind the address and a space, as on a lesson's line
+abbrev pub wordIn : List ℕ → ℕ
+wordIn text = word text 0
 
 -- LINES: the words that were read, and the text behind their lines
 pub record Words : Type 0 where

@@ -2,7 +2,9 @@
 ghost use mathlib.Core.Path.{_≡_};
 ghost use mathlib.Core.List.{[], _∷_};
 ghost use Prim.Native.Nat.{_-_};
-ghost use Rattle.unlisting.specs.Unlisting.{begins, digitAt, wordIn, readLines, numbered, leaves, reading};
+ghost use lib.ListN.{getD};
+ghost use Rattle.lines.specs.Lines.{digit};
+ghost use Rattle.unlisting.specs.Unlisting.{begins, wordIn, readLines, numbered, leaves, reading};
 ghost use Rattle.unlisting.specs.Passes.{lineIn, laidIf, LinesRead};
 ghost use Rattle.unlisting.specs.Together.{Together};
 use listed_lines::Standing;
@@ -69,7 +71,7 @@ fn begins(line: &[u8], text: &[u8]) -> bool
 
 // The octal digit of a byte of a text; 0 where the text has no such byte.
 fn digit_at(text: &[u8], at: usize) -> u16
-    ensures { λ r. ⌜ r ≡ digitAt (now (text .entry)) at ⌝ }
+    ensures { λ r. ⌜ r ≡ digit (getD (now (text .entry)) at 0) ⌝ }
 {
     if at < text.len() {
         lines::digit(text[at])

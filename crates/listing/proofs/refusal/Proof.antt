@@ -1,6 +1,4 @@
 -- `listing::refusal` meets its promise: the tests stand in the definition's order. Assumes nothing.
-use mathlib.Core.Bool.{not}
-use mathlib.Core.Path.{sym, _∙_, ap}
 use borrow.Author.Needs.{needs}
 use borrow.Author.Tests.{eq-eqb, ne-eqb}
 use Rattle.words.specs.Words.{pick}

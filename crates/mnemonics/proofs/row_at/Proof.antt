@@ -1,5 +1,4 @@
 -- `mnemonics::row_at` meets its promise: the constant is the row of the definition as one number, taken apart. Assumes nothing.
-use mathlib.Core.List.{map}
 use lib.ListN.{List·getD-map}
 use borrow.Author.Needs.{needs}
 use Rattle.mnemonics.specs.Mnemonics.{rows, noRow}

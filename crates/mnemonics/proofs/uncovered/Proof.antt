@@ -2,7 +2,6 @@
 use mathlib.Core.Path.{sym, _∙_}
 use lib.Bits.{and-le-l}
 use borrow.Author.Needs.{needs}
-use native.Mathlib.Omega.{arith}
 use Rattle.words.specs.Words.{pick}
 use Rattle.mnemonics.specs.Mnemonics.{uncovered}
 use Rattle.mnemonics.proofs.uncovered.Statement.{statement}

@@ -1,5 +1,4 @@
 -- `unlisting::lay` meets its promise: a word past the memory's end is none. Assumes nothing.
-use mathlib.Core.Path.{sym}
 use lib.Seq.{set-out}
 use borrow.Author.Needs.{needs}
 use Rattle.words.specs.Words.{pick}

@@ -1,11 +1,11 @@
 -- `unlisting::word_in` meets its promise: each digit is taken times its weight. Assumes nothing.
 use borrow.Author.Needs.{needs}
-use Rattle.unlisting.specs.Unlisting.{wordIn}
+use Rattle.lines.specs.Lines.{four}
 use Rattle.unlisting.proofs.word_in.Statement.{statement}
 use Rattle.unlisting.proofs.word_in.Tie as tie
 
 pub word-in-spec : {M : Type 1} → statement M
-unfolding wordIn
+unfolding four
 word-in-spec =
     tie.close
     (tie.spec

@@ -106,7 +106,8 @@ record Made (m : List ℕ) (low high state mode : ℕ) (k : ℕ) (left : List �
 no-listing : (n k : ℕ) → Refused n ≡ Done k → ⊥
 no-listing n k e = let z : _≡_ {A = ℕ} 0 1 = cc in omega arith
 
-made : (m : List ℕ) (low high state mode : ℕ) (t : List ℕ) (k : ℕ) → listed m low high state mode t .answer ≡ Done k → Made m low high state mode k (listed m low high state mode t .text)
+made : (m : List ℕ) (low high state mode : ℕ) (t : List ℕ) (k : ℕ) → listed m low high state mode t .answer ≡ Done k →
+    Made m low high state mode k (listed m low high state mode t .text)
 unfolding listed
 made m low high state mode t k =
     let number = refusal (length m) low high state mode in
@@ -134,7 +135,8 @@ no-reading n e = let z : _≡_ {A = ℕ} 0 1 = cc in omega arith
 no-form : (n : ℕ) → NotInForm n ≡ Accepted → ⊥
 no-form n e = let z : _≡_ {A = ℕ} 0 1 = cc in omega arith
 
-taken : (s m : List ℕ) (low high state mode : ℕ) → reading s m low high state mode .answer ≡ Accepted → Taken s m low high state mode (reading s m low high state mode .memory)
+taken : (s m : List ℕ) (low high state mode : ℕ) → reading s m low high state mode .answer ≡ Accepted →
+    Taken s m low high state mode (reading s m low high state mode .memory)
 unfolding reading
 taken s m low high state mode =
     let number = refusal (length m) low high state mode in

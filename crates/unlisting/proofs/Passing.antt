@@ -124,7 +124,8 @@ module _ (text : List ℕ) (laying : Bool) (m₀ : List ℕ) (low high : ℕ) (f
         opened =
             rw (turns, is .begun, is .word, is .size, ← drop-drop (length (lineOf a (wordIn (drop n text)) (shown s))) n text)
 
-        pub next : {m′ : List ℕ} {t : Standing} → length m′ ≡ length m → m′ ≡ laidIf laying m a (w ∷ []) → t ≡ after s w → Far text laying m₀ low high from m′ t (n + k) (a + 1)
+        pub next : {m′ : List ℕ} {t : Standing} → length m′ ≡ length m → m′ ≡ laidIf laying m a (w ∷ []) → t ≡ after s w →
+            Far text laying m₀ low high from m′ t (n + k) (a + 1)
         next size p q =
             let o = opened in
             record {

@@ -37,6 +37,8 @@ measure-spec =
     let v = loop .before .loop .inv in (
       omega (arith, loop .loop-test .taken),
       omega (arith, length-line _ _ _ (c .before .line-length .ensures)),
-      rw (c .before .line-length .ensures, c .before .before .shown .ensures) (measured-next _ _ _ _ (loop .before .before .before .pre .1) (loop .loop-test .taken) refl (c .after .ensures) (loop .before .loop .good) (loop .before .loop .total)) ∙ v .2,
+      rw (c .before .line-length .ensures, c .before .before .shown .ensures)
+          (measured-next _ _ _ _ (loop .before .before .before .pre .1) (loop .loop-test .taken) refl (c .after .ensures)
+          (loop .before .loop .good) (loop .before .loop .total)) ∙ v .2,
     ))
     (λ c. let v = c .before .loop .inv in measured-last _ _ _ _ (c .loop-test .left) (v .0) _ _ ∙ v .2))

@@ -13,7 +13,8 @@ use Rattle.listing.proofs.put_lines.Tie as tie
 
 abbrev Inv-loop : tie.InvT-loop
 Inv-loop memory low high text₀ place₀ from address₀ text place standing address =
-    (address ≤ high) × (length text ≡ length text₀) × (puts (linesOf address standing (slice address high memory)) (filled place text) ≡ puts (linesOf low from (slice low high memory)) (filled 0 text₀))
+    (address ≤ high) × (length text ≡ length text₀)
+    × (puts (linesOf address standing (slice address high memory)) (filled place text) ≡ puts (linesOf low from (slice low high memory)) (filled 0 text₀))
 
 abbrev μ-loop : tie.MeasureT-loop
 μ-loop memory low high text₀ place₀ from address₀ text place standing address = high - address
@@ -38,7 +39,8 @@ put-lines-spec =
     let v = loop .before .loop .inv in (
       omega (arith, loop .loop-test .taken),
       (c .before .before .text .given ∙ v .1),
-      lines-next _ _ _ _ (loop .before .before .before .before .pre .1) (loop .loop-test .taken) refl (c .after .ensures) _ (rw (← put .before .before .shown .ensures) (put .put-line .ensures)) ∙ v .2,
+      lines-next _ _ _ _ (loop .before .before .before .before .pre .1) (loop .loop-test .taken) refl (c .after .ensures) _
+          (rw (← put .before .before .shown .ensures) (put .put-line .ensures)) ∙ v .2,
     ))
     (λ c. c .before .loop .inv .1)
     (λ c. let v = c .before .loop .inv in lines-last _ _ _ _ (c .loop-test .left) (v .0) _ ∙ v .2))

@@ -39,7 +39,8 @@ put-letters-spec =
     let j = loop .before .loop .j in (
       omega arith,
       (c .before .text .given ∙ v .1),
-      letters-next (rowAt i .name) j _ (omega (arith, name-length i)) (letter-at i j (loop .before .before .before .pre) (loop .loop-test .taken)) (c .before .before .put-letter .ensures) ∙ v .2,
+      letters-next (rowAt i .name) j _ (omega (arith, name-length i)) (letter-at i j (loop .before .before .before .pre) (loop .loop-test .taken))
+          (c .before .before .put-letter .ensures) ∙ v .2,
     ))
     (λ c. c .before .loop .inv .1)
     (λ c. let v = c .before .loop .inv in

@@ -14,4 +14,6 @@ put-mnemonics-spec =
     (λ c κs. search needs)
     (λ c κs. search needs)
     (λ c. search needs)
-    (λ c. rw (← c .before .before .before .before .rest .ensures) (behind _ _ _ (c .before .before .before .before .before .before .before .put-names .ensures) (c .before .before .put-rest .ensures))))
+    (λ c. let rested = c .before .before in
+    let named = rested .before .before .before .before .before in
+    rw (← rested .before .before .rest .ensures) (behind _ _ _ (named .put-names .ensures) (rested .put-rest .ensures))))

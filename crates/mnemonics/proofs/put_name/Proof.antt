@@ -23,5 +23,7 @@ put-name-spec =
     let spaced = named .before .before .before .before in
     let tested = spaced .before .before .before in
     let i = tested .before .before .before .args .i in
-    rw (← tested .before .row-at .ensures) (rw (sym (tested .applies .ensures) ∙ spaced .before .before .if1 .taken) (behind (32 ∷ []) (letters (rowAt i .name)) _ (spaced .put .ensures) (named .put-letters .ensures))))
+    rw (← tested .before .row-at .ensures)
+    (rw (sym (tested .applies .ensures) ∙ spaced .before .before .if1 .taken)
+    (behind (32 ∷ []) (letters (rowAt i .name)) _ (spaced .put .ensures) (named .put-letters .ensures))))
     (λ c. rw (← c .before .before .row-at .ensures) (rw (sym (c .before .applies .ensures) ∙ c .if1 .left))))

@@ -18,4 +18,8 @@ put-rest-spec =
     (λ c κs. search needs)
     (λ c. rw (eq-eqb _ _ (c .if1 .taken)))
     (λ c. search needs)
-    (λ c. rw (ne-eqb _ _ (c .before .before .before .before .before .before .before .before .if1 .left)) (behind (32 ∷ []) (octal (c .before .before .before .before .before .before .before .before .before .before .args .left)) _ (c .before .before .before .before .before .before .put .ensures) (c .before .before .put-octal .ensures))))
+    (λ c. let rested = c .before .before in
+    let spaced = rested .before .before .before .before in
+    let tested = spaced .before .before in
+    let left = tested .before .before .args .left in
+    rw (ne-eqb _ _ (tested .if1 .left)) (behind (32 ∷ []) (octal left) _ (spaced .put .ensures) (rested .put-octal .ensures))))

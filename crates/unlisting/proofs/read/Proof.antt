@@ -23,8 +23,10 @@ read-spec =
     (λ c. let tests = c .before .before .before .before in
     let first = tests .before .before .before .before .before in
     let start = first .before .before in
-    accepts _ _ _ _ _ _ (sym (start .before .before .refusal .ensures) ∙ start .before .if1 .left) (start .starting .ensures) (first .read-lines .ensures) (tests .if2 .taken) (c .before .before .read-lines2 .ensures))
+    accepts _ _ _ _ _ _ (sym (start .before .before .refusal .ensures) ∙ start .before .if1 .left)
+    (start .starting .ensures) (first .read-lines .ensures) (tests .if2 .taken) (c .before .before .read-lines2 .ensures))
     (λ c. search needs)
     (λ c. let first = c .before .before .before .before .before .before in
     let start = first .before .before in
-    unformed _ _ _ _ _ _ (sym (start .before .before .refusal .ensures) ∙ start .before .if1 .left) (start .starting .ensures) (first .read-lines .ensures) (c .before .if2 .left)))
+    unformed _ _ _ _ _ _ (sym (start .before .before .refusal .ensures) ∙ start .before .if1 .left)
+    (start .starting .ensures) (first .read-lines .ensures) (c .before .if2 .left)))

@@ -37,13 +37,21 @@ read-lines-spec =
     (λ c κs. search needs)
     (λ c. let called = c .before .before .before .before .before .before .before .before in
     let loop = called .before .before .before in
-    record { fits = omega (arith, line-inside _ _ _ _ _ _ (loop .before .loop .inv) (loop .loop-test .taken) (called .before .shown .ensures) (called .line-in .ensures) (c .before .before .before .before .before .before .found .given .1)) })
+    record {
+      fits = omega (
+        arith,
+        line-inside _ _ _ _ _ _ (loop .before .loop .inv) (loop .loop-test .taken)
+            (called .before .shown .ensures) (called .line-in .ensures) (c .before .before .before .before .before .before .found .given .1),
+      );
+    })
     (λ c. let loop = c .before .before .before .before .before .before .before .before .before .before .before in record { fits = omega (arith, loop .loop-test .taken) })
     (λ c. let loop = c .before .before .before .before .before .before .before .before .before .before .before in omega (arith, loop .loop-test .taken))
     (λ c. let laid = c .before .before .before in
     let called = laid .before .before .before .before .before in
     let loop = called .before .before .before in
-    next _ _ _ _ _ _ (loop .before .loop .inv) (loop .loop-test .taken) (called .before .shown .ensures) (called .line-in .ensures) (laid .before .before .before .found .given .1) (c .before .before .memory .given) (laid .lay .ensures) (c .after .ensures))
+    next _ _ _ _ _ _ (loop .before .loop .inv) (loop .loop-test .taken)
+    (called .before .shown .ensures) (called .line-in .ensures) (laid .before .before .before .found .given .1)
+    (c .before .before .memory .given) (laid .lay .ensures) (c .after .ensures))
     (λ c. c .before .loop .inv .above)
     (λ c. c .before .loop .inv .same)
     (λ c. ends _ _ _ _ _ _ (c .before .loop .inv) (c .loop-test .left)))

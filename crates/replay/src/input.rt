@@ -1,6 +1,8 @@
 // Standard input, read in blocks and taken apart byte by byte: no line is ever held, so a line may have any length.
 use crate::Block;
+use crate::LONGEST;
 use crate::SIZE;
+use crate::Text;
 
 // Where the reading stands in the block, `end` being how much of the block is filled, and what it read last.
 pub(crate) struct Reader {
@@ -9,7 +11,7 @@ pub(crate) struct Reader {
     // The last byte, 0 once the input is over.
     pub byte: u8,
     pub over: bool,
-    // The last number.
+    // The last number, or how many bytes the last text has.
     pub number: u64,
     // Whether the line is a case so far.
     pub valid: bool,
@@ -47,7 +49,7 @@ fn filled(r: Reader, block: &mut Block) -> Reader {
 }
 
 // Reads the next byte.
-fn next(r: Reader, block: &mut Block) -> Reader {
+pub(crate) fn next(r: Reader, block: &mut Block) -> Reader {
     let mut q = filled(r, block);
     if q.at == q.end {
         q.byte = 0;
@@ -68,18 +70,25 @@ pub(crate) fn first(r: Reader, block: &mut Block) -> Reader {
     q
 }
 
-// Reads the byte that has to come next.
-pub(crate) fn expect(r: Reader, block: &mut Block, byte: u8) -> Reader {
-    if !r.valid {
-        return r;
+// The byte that was read last has to be this one.
+fn been(r: Reader, byte: u8) -> Reader {
+    if r.byte == byte { r } else { failed(r) }
+}
+
+// Reads the bytes that have to come next.
+pub(crate) fn expect(r: Reader, block: &mut Block, bytes: &[u8]) -> Reader {
+    let mut q = r;
+    let mut i = 0;
+    while i < bytes.len() && q.valid {
+        q = been(next(q, block), bytes[i]);
+        i += 1;
     }
-    let q = next(r, block);
-    if q.byte == byte { q } else { failed(q) }
+    q
 }
 
 // A line's last newline was read: only now is the line a case.
 pub(crate) fn ended(r: Reader) -> Reader {
-    if r.byte == b'\n' { r } else { failed(r) }
+    been(r, b'\n')
 }
 
 // Reads on to the line's newline, or to the end of the input.
@@ -143,4 +152,51 @@ pub(crate) fn numbers(r: Reader, block: &mut Block, largest: &[u64], values: &mu
         i += 1;
     }
     q
+}
+
+// A byte of a text, in which | stands for a newline.
+fn unmarked(byte: u8) -> u8 {
+    if byte == b'|' { b'\n' } else { byte }
+}
+
+// Whether the byte that was read last is one of the line.
+fn within(r: Reader) -> bool {
+    r.valid & !r.over & (r.byte != b'\n')
+}
+
+// Reads the bytes of a text, of which the first was read last, up to the line's newline.
+fn bytes(r: Reader, block: &mut Block, text: &mut Text) -> Reader {
+    let mut q = r;
+    let mut length = 0;
+    while length < LONGEST && within(q) {
+        text[length] = unmarked(q.byte);
+        length += 1;
+        q = next(q, block);
+    }
+    q.number = length as u64;
+    q
+}
+
+// A text of - alone is empty.
+fn cleared(r: Reader, text: &Text) -> Reader {
+    let mut q = r;
+    if (r.number == 1) & (text[0] == b'-') {
+        q.number = 0;
+    }
+    q
+}
+
+// Reads a semicolon and the text behind it, where the space before them was read last. A line that ends right behind the semicolon has no text.
+pub(crate) fn text(r: Reader, block: &mut Block, text: &mut Text) -> Reader {
+    let semicolon = expect(been(r, b' '), block, b";");
+    if !semicolon.valid {
+        return semicolon;
+    }
+    let q = next(semicolon, block);
+    let p = if q.byte == b' ' {
+        next(q, block)
+    } else {
+        ended(q)
+    };
+    ended(cleared(bytes(p, block, text), text))
 }

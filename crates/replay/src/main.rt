@@ -2,8 +2,11 @@
 mod fields;
 mod input;
 mod lent;
+mod list;
 mod operation;
 mod output;
+mod range;
+mod read;
 mod run;
 
 use input::Reader;
@@ -13,15 +16,43 @@ const SIZE: usize = 4096;
 
 type Block = [u8; SIZE];
 
-// The largest memory that a case can lend, one word above the machine's, and the longest point list.
+// The largest memory that a case can lend, one word above the machine's, the longest point list, and the longest text.
 type Memory = [u16; 32769];
 
 type Points = [u32; 65536];
+
+const LONGEST: usize = 1500000;
+
+type Text = [u8; LONGEST];
 
 // Where a case leaves the reader and the output.
 struct Step {
     reader: Reader,
     place: usize,
+}
+
+// Answers the case of `run` or `read`, which its second byte tells apart.
+fn run_or_read(
+    r: Reader,
+    block: &mut Block,
+    memory: &mut Memory,
+    before: &mut Memory,
+    points: &mut Points,
+    text: &mut Text,
+    out: &mut Block,
+    place: usize,
+) -> Step {
+    let second = input::next(r, block);
+    if second.byte == b'u' {
+        run::answer(second, block, memory, before, points, out, place)
+    } else if second.byte == b'e' {
+        read::answer(second, block, memory, before, text, out, place)
+    } else {
+        Step {
+            reader: input::failed(second),
+            place,
+        }
+    }
 }
 
 // Answers the case whose first byte was read last. A reader that comes back not valid has answered nothing.
@@ -31,13 +62,16 @@ fn answer(
     memory: &mut Memory,
     before: &mut Memory,
     points: &mut Points,
+    text: &mut Text,
     out: &mut Block,
     place: usize,
 ) -> Step {
     if r.byte == b'o' {
         operation::answer(r, block, out, place)
     } else if r.byte == b'r' {
-        run::answer(r, block, memory, before, points, out, place)
+        run_or_read(r, block, memory, before, points, text, out, place)
+    } else if r.byte == b'l' {
+        list::answer(r, block, memory, before, text, out, place)
     } else {
         Step {
             reader: input::failed(r),
@@ -61,10 +95,11 @@ fn line(
     memory: &mut Memory,
     before: &mut Memory,
     points: &mut Points,
+    text: &mut Text,
     out: &mut Block,
     place: usize,
 ) -> Step {
-    let step = answer(r, block, memory, before, points, out, place);
+    let step = answer(r, block, memory, before, points, text, out, place);
     let q = step.reader;
     if q.valid {
         step
@@ -83,6 +118,7 @@ fn lines(
     memory: &mut Memory,
     before: &mut Memory,
     points: &mut Points,
+    text: &mut Text,
     out: &mut Block,
 ) -> usize {
     let mut r = input::first(input::start(), block);
@@ -90,7 +126,7 @@ fn lines(
     let mut number = 0;
     while number < u64::MAX && !r.over {
         number += 1;
-        let step = line(r, number, block, memory, before, points, out, place);
+        let step = line(r, number, block, memory, before, points, text, out, place);
         place = step.place;
         let q = step.reader;
         r = input::first(q, block);
@@ -104,6 +140,14 @@ fn main() {
     let mut memory = [0u16; 32769];
     let mut before = [0u16; 32769];
     let mut points = [0u32; 65536];
-    let place = lines(&mut block, &mut memory, &mut before, &mut points, &mut out);
+    let mut text = [0u8; LONGEST];
+    let place = lines(
+        &mut block,
+        &mut memory,
+        &mut before,
+        &mut points,
+        &mut text,
+        &mut out,
+    );
     output::flush(&out, place);
 }

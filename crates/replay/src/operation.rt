@@ -30,8 +30,7 @@ fn operate(registers: Registers, operation: u64, operand: u64) -> Operated {
 
 // Reads the rest of the case, behind its first byte, and answers it.
 pub(crate) fn answer(r: Reader, block: &mut Block, out: &mut Block, place: usize) -> Step {
-    let named = input::expect(input::expect(r, block, b'p'), block, b' ');
-    let taken = fields::read(named, block);
+    let taken = fields::read(input::expect(r, block, b"p "), block);
     let operation = input::number(taken.reader, block, 4294967295);
     let operand = input::ended(input::number(operation, block, 4294967295));
     if operand.valid {

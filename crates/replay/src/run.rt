@@ -14,31 +14,18 @@ use answers::Numbers;
 use loan::Loan;
 use registers::Registers;
 
-// The largest BUDGET, FLO, FHI, LLO, LHI, ROOM, MEMLEN, DEFAULT and COUNT, as the types and the format give them.
-const LARGEST: [u64; 9] = [
-    4294967295,
-    65535,
-    65535,
-    65535,
-    65535,
-    65536,
-    32769,
-    65535,
-    4294967295,
-];
+// The largest BUDGET, FLO, FHI, LLO, LHI and ROOM, as the types and the format give them.
+const LARGEST: [u64; 6] = [4294967295, 65535, 65535, 65535, 65535, 65536];
 
-// A case but for its pairs: the call, the lengths of the point list and of the memory, the memory's word, and how many pairs come.
+// A case but for its memory: the call, and the length of the point list.
 struct Case {
     registers: Registers,
     ranges: Loan,
     budget: u32,
     room: u64,
-    length: u64,
-    word: u16,
-    count: u64,
 }
 
-fn ranges(v: [u64; 9]) -> Loan {
+fn ranges(v: [u64; 6]) -> Loan {
     Loan {
         filelow: fields::wide(v[1]),
         filehigh: fields::wide(v[2]),
@@ -47,15 +34,12 @@ fn ranges(v: [u64; 9]) -> Loan {
     }
 }
 
-fn case_of(registers: Registers, v: [u64; 9]) -> Case {
+fn case_of(registers: Registers, v: [u64; 6]) -> Case {
     Case {
         registers,
         ranges: ranges(v),
         budget: (v[0] % 4294967296) as u32,
         room: v[5],
-        length: v[6],
-        word: fields::wide(v[7]),
-        count: v[8],
     }
 }
 
@@ -90,58 +74,32 @@ fn play(
     output::put(b'\n', out, changed)
 }
 
-// Reads the memory, and answers the case that ends behind it.
-fn answer_on(
-    r: Reader,
-    case: Case,
-    block: &mut Block,
-    memory: &mut [u16],
-    before: &mut [u16],
-    points: &mut [u32],
-    out: &mut Block,
-    place: usize,
-) -> Step {
-    lent::clear(points);
-    let reader = input::ended(lent::read(r, block, case.word, case.count, memory, before));
-    if reader.valid {
-        Step {
-            reader,
-            place: play(case, memory, before, points, out, place),
-        }
-    } else {
-        Step { reader, place }
-    }
-}
-
-// Lends of the memories and the point list as much as the case says.
+// Lends of the memory and the point list as much as the case says. The memory before the run may be longer.
 fn lend(
-    r: Reader,
     case: Case,
-    block: &mut Block,
+    size: u64,
     memory: &mut [u16],
-    before: &mut [u16],
+    before: &[u16],
     points: &mut [u32],
     out: &mut Block,
     place: usize,
-) -> Step
-    requires { ⌜ (length (now memory) ≡ 32769) × (length (now before) ≡ 32769) × (length (now points) ≡ 65536) ⌝ }
+) -> usize
+    requires { ⌜ (length (now memory) ≡ 32769) × (length (now points) ≡ 65536) ⌝ }
 {
     // Never above these largest numbers; the remainder spares every caller to say so.
-    let length = (case.length % 32770) as usize;
+    let words = (size % 32770) as usize;
     let room = (case.room % 65537) as usize;
-    answer_on(
-        r,
+    play(
         case,
-        block,
-        &mut memory[..length],
-        &mut before[..length],
+        &mut memory[..words],
+        before,
         &mut points[..room],
         out,
         place,
     )
 }
 
-// Reads the rest of the case, behind its first byte, and answers it.
+// Reads the rest of the case, behind its second byte, and answers it.
 pub(crate) fn answer(
     r: Reader,
     block: &mut Block,
@@ -151,10 +109,18 @@ pub(crate) fn answer(
     out: &mut Block,
     place: usize,
 ) -> Step {
-    let named = input::expect(input::expect(r, block, b'u'), block, b'n');
-    let taken = fields::read(input::expect(named, block, b' '), block);
-    let mut v = [0u64; 9];
-    let reader = input::numbers(taken.reader, block, &LARGEST, &mut v);
-    let case = case_of(taken.registers, v);
-    lend(reader, case, block, memory, before, points, out, place)
+    let taken = fields::read(input::expect(r, block, b"n "), block);
+    let mut v = [0u64; 6];
+    let numbered = input::numbers(taken.reader, block, &LARGEST, &mut v);
+    let reader = input::ended(lent::read(numbered, block, memory, before));
+    if reader.valid {
+        lent::clear(points, v[5]);
+        let case = case_of(taken.registers, v);
+        Step {
+            reader,
+            place: lend(case, reader.number, memory, before, points, out, place),
+        }
+    } else {
+        Step { reader, place }
+    }
 }

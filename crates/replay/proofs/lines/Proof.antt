@@ -5,10 +5,10 @@ use Rattle.replay.proofs.lines.Statement.{statement}
 use Rattle.replay.proofs.lines.Tie as tie
 
 abbrev Inv-loop : tie.InvT-loop
-Inv-loop block₀ memory₀ before₀ points₀ out₀ r₀ place₀ number₀ block memory before points out r place number = Unit {0}
+Inv-loop block₀ memory₀ before₀ points₀ text₀ out₀ r₀ place₀ number₀ block memory before points text out r place number = Unit {0}
 
 abbrev μ-loop : tie.MeasureT-loop
-μ-loop block₀ memory₀ before₀ points₀ out₀ r₀ place₀ number₀ block memory before points out r place number = 2 ^ 64 - number
+μ-loop block₀ memory₀ before₀ points₀ text₀ out₀ r₀ place₀ number₀ block memory before points text out r place number = 2 ^ 64 - number
 
 pub lines-spec : {M : Type 1} → statement M
 lines-spec =

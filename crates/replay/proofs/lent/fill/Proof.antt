@@ -1,17 +1,14 @@
--- `replay::lent::fill` is safe and ends: the loop keeps the length of `words`, of which the measure is what is left. Assumes nothing.
-use borrow.Author.Needs.{needs}
+-- `replay::lent::fill` is safe and ends: the measure is what is left of the memory, and nothing has to hold from word to word. Assumes nothing.
 use Prim.Native.Nat.{_-_}
-use mathlib.Core.Path.{_≡_}
 use native.Mathlib.Omega.{arith}
-use lib.ListN.{length, length-set}
 use Rattle.replay.proofs.lent.fill.Statement.{statement}
 use Rattle.replay.proofs.lent.fill.Tie as tie
 
 abbrev Inv-loop : tie.InvT-loop
-Inv-loop words₀ word i₀ words i = length words ≡ length words₀
+Inv-loop memory₀ word i₀ memory i = Unit {0}
 
 abbrev μ-loop : tie.MeasureT-loop
-μ-loop words₀ word i₀ words i = length words - i
+μ-loop memory₀ word i₀ memory i = 32769 - i
 
 pub fill-spec : {M : Type 1} → statement M
 fill-spec =
@@ -19,11 +16,10 @@ fill-spec =
     (tie.spec
     Inv-loop
     μ-loop
-    (λ c. search needs)
-    (λ c. search needs)
-    (λ c. search needs)
-    (λ c. search needs)
-    (λ c. simp length-set (omega arith))
-    (λ c. simp length-set (omega arith))
-    (λ c. search needs)
-    (λ c. search needs))
+    (λ c. tt)
+    (λ c. omega arith)
+    (λ c. omega arith)
+    (λ c. omega arith)
+    (λ c. omega arith)
+    (λ c. tt)
+    (λ c. tt))

@@ -1,4 +1,5 @@
--- The points of an answer fit 32 bits: an operation lights none, and a run's beat at most one, of at most 65,535 beats. Assumes nothing.
+-- The counts of an answer fit 32 bits: an operation lights no points, and a run's beat at most one, of at most 65,535 beats; a reading writes no text. For
+-- a listing's length there is listing's Longest.antt. Assumes nothing.
 use Prim.Native.Nat.{ℕ, zero, suc, _≤_, _<_}
 use mathlib.Core.List.{List}
 use lib.ListN.{length, length-append}
@@ -21,6 +22,9 @@ use Rattle.endings.specs.Endings.{halted}
 use Rattle.runs.specs.Runs.{Run, Go, follow, onward, run, CallLeft}
 use Rattle.calls.specs.Calls.{entered, call, numbered as answerNumbered}
 use Rattle.calls.proofs.Case.{call-case}
+use Rattle.unlisting.specs.declared.Reading.{Reading}
+use Rattle.unlisting.specs.declared.Reading.the-variants.{Refused as RefusedReading, NotInForm, Done as Accepted}
+use Rattle.unlisting.specs.Unlisting.{numbered as readingNumbered}
 
 pub reply-points : (q : Reply) → replyNumbered q .points < 4294967296
 reply-points (Refused number) = omega arith
@@ -55,3 +59,9 @@ Few t = answerNumbered (t .ran .answer) .points < 4294967296
 pub answer-points : (budget : ℕ) (l : Loan) (r : Registers) (m ps : List ℕ) → Few (call budget l r m ps)
 answer-points k l r m ps =
     call-case k l r m ps Few (λ _ h _ _. omega (arith, leb-true k 65535 h, entered-few k l (length ps) r m)) (λ _. omega arith)
+
+pub reading-length : (q : Reading) → readingNumbered q .length < 4294967296
+unfolding readingNumbered
+reading-length (RefusedReading number) = omega arith
+reading-length (NotInForm line) = omega arith
+reading-length Accepted = omega arith

@@ -1,3 +1,4 @@
 pub mod Going
 pub mod Unrefused
 pub mod Answers
+pub mod Longest

@@ -2,7 +2,7 @@
    change in them; docs/MACHINE.md tells them.
 
    Whatever numbers arrive, a call is refused or done, ends, and does nothing undefined: nothing has to be checked first. A refused call leaves
-   registers, memory and points as they were. Only the pointers are the caller's care: none is null, not even of an empty list; each points to as
+   registers, memory, points and text as they were. Only the pointers are the caller's care: none is null, not even of an empty list; each points to as
    many numbers as its type or its count says; and no two of them overlap. No call keeps a pointer or has a state of its own, so calls on other
    lists may be made at the same time. */
 #ifndef EVEGLOME_H
@@ -75,7 +75,7 @@ enum eveglome_loan {
     EVEGLOME_LOAN = 4                     /* how many places there are */
 };
 
-/* The places of an answer. A refusal has word 0, beats 0, points 0, address 0. */
+/* The places of an operation's or a run's answer. A refusal has word 0, beats 0, points 0, address 0. */
 enum eveglome_answer {
     EVEGLOME_ENDING = 0,                  /* an eveglome_ending */
     EVEGLOME_WORD = 1,                    /* what a read answers, up to 4,095, else 0 */
@@ -86,15 +86,25 @@ enum eveglome_answer {
     EVEGLOME_ANSWER = 5                   /* how many places there are */
 };
 
-/* How a call ended: 0 for an operation that was done, 1 to 6 refused, 10 to 19 how a run ended. A run ends at the fence with 16 or 19. */
+/* The places of a listing's or a reading's answer. */
+enum eveglome_listing_answer {
+    EVEGLOME_LISTING_REFUSAL = 0,         /* EVEGLOME_DONE, or the eveglome_ending that says why nothing was written */
+    EVEGLOME_LISTING_LINE = 1,            /* with EVEGLOME_LINE_NOT_IN_FORM the number of the first such line, from 1 up to 32,769; else 0 */
+    EVEGLOME_LISTING_LENGTH = 2,          /* how many bytes of the text list a listing filled, from the first; of a refusal and of a reading 0 */
+    EVEGLOME_LISTING_ANSWER = 3           /* how many places there are */
+};
+
+/* How a call ended: 0 for an operation, a listing or a reading that was done, 1 to 7, 23 and 24 refused, 10 to 19 how a run ended. A run ends at the fence with
+   16 or 19. */
 enum eveglome_ending {
-    EVEGLOME_DONE = 0,                    /* an operation was done */
+    EVEGLOME_DONE = 0,                    /* an operation, a listing or a reading was done */
     EVEGLOME_MEMORY_LENGTH = 1,           /* memory is not 32,768 long */
     EVEGLOME_BUDGET_TOO_LARGE = 2,        /* budget above 65,535 */
-    EVEGLOME_BAD_LOAN = 3,                /* low above high, or high above 32,768 */
+    EVEGLOME_BAD_LOAN = 3,                /* low above high, or high above 32,768, of a loan or of the range that is listed or read */
     EVEGLOME_REGISTERS_OUT_OF_RANGE = 4,  /* outside the limits that stand with the places */
     EVEGLOME_UNKNOWN_OPERATION = 5,       /* no eveglome_operation */
-    EVEGLOME_OPERAND_OUT_OF_RANGE = 6,    /* above what the operation takes */
+    EVEGLOME_OPERAND_OUT_OF_RANGE = 6,    /* above what the operation takes; of a listing or a reading, a state above 1 or a mode above 7 */
+    EVEGLOME_LINE_NOT_IN_FORM = 7,        /* a text that is no listing of that range from that state and mode; its first wrong line is told */
     EVEGLOME_NOT_RUNNING = 10,            /* not running at entry */
     EVEGLOME_BUDGET_SPENT = 11,           /* still running */
     EVEGLOME_INTERNAL_STOP = 12,          /* stopped by a word */
@@ -104,7 +114,9 @@ enum eveglome_ending {
     EVEGLOME_FETCH_OUTSIDE_LOAN = 16,     /* still running, before a fetch outside both ranges */
     EVEGLOME_WIDE_WORD = 17,              /* still running, before a word above 4,095 */
     EVEGLOME_POINTS_FULL = 18,            /* still running, before a point that has no room */
-    EVEGLOME_WRITE_OUTSIDE_LOAN = 19      /* still running, before a push's write outside the list range */
+    EVEGLOME_WRITE_OUTSIDE_LOAN = 19,     /* still running, before a push's write outside the list range */
+    EVEGLOME_TEXT_TOO_SHORT = 23,         /* the text list has fewer bytes than the listing */
+    EVEGLOME_WIDE_WORD_IN_RANGE = 24      /* a word of the range that is to be listed is above 4,095 */
 };
 
 /* The host operations. One that is done answers EVEGLOME_DONE, and word 0 unless it is a read. Its operand is 0 unless one stands here; another number is
@@ -140,6 +152,9 @@ enum eveglome_operation {
 /* How many words a memory has. */
 #define EVEGLOME_MEMORY 32768
 
+/* How many bytes are room for any listing: the words of all memory, with the longest line, which has 43 bytes. */
+#define EVEGLOME_LONGEST_LISTING 1409024
+
 /* The parts of an entry of the point list, x + 1,024 y + 2^20 intensity + 2^23 blink: x and y up to 1,023, intensity up to 7, blink 0 or 1. */
 #define EVEGLOME_POINT_X(point) ((unsigned)((point) & 1023))
 #define EVEGLOME_POINT_Y(point) ((unsigned)((point) >> 10 & 1023))
@@ -156,6 +171,20 @@ void eveglome_operate(uint16_t registers[EVEGLOME_ROW], uint32_t operation, uint
    stays. Refused as 1, 2, 3 or 4, in this order. */
 void eveglome_run(uint16_t registers[EVEGLOME_ROW], const uint16_t loan[EVEGLOME_LOAN], uint16_t *memory, size_t memory_length, uint32_t *points,
                   size_t points_length, uint32_t budget, uint32_t answer[EVEGLOME_ANSWER]);
+
+/* Lists the words from `low` up to, not including, `high`, both up to 32,768, as the display would meet them from this state, 0 control or 1 data, and this
+   mode, up to 7, on; no jump is followed. A word is a line: its address in five octal digits and the word in four; then, unless it is a data word or the second
+   word of a jump, the manual's mnemonics, and in octal the bits that none of them covers, unless 0. One space stands between two fields, and a newline behind
+   the last. The lines fill the first entries of `text`, as many as are answered, with no 0 behind them; the rest stays. 43 bytes for each word are always
+   enough, and EVEGLOME_LONGEST_LISTING for all. An empty range has no lines. Refused as 1, 3, 6, 24 or 23, in this order. */
+void eveglome_list(const uint16_t *memory, size_t memory_length, uint32_t low, uint32_t high, uint32_t state, uint32_t mode, uint8_t *text, size_t text_length,
+                   uint32_t answer[EVEGLOME_LISTING_ANSWER]);
+
+/* Reads a listing back into the words from `low` up to `high`, and changes no other word. Taken are exactly the texts that eveglome_list writes for some words
+   of this range from this state and mode on. So every byte counts, a line missing or too many is not in form, and neither is a 0 behind the text; what the
+   words were before does not matter. Refused as 1, 3, 6 or 7, in this order. */
+void eveglome_read(const uint8_t *text, size_t text_length, uint16_t *memory, size_t memory_length, uint32_t low, uint32_t high, uint32_t state, uint32_t mode,
+                   uint32_t answer[EVEGLOME_LISTING_ANSWER]);
 
 #ifdef __cplusplus
 }

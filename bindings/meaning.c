@@ -26,10 +26,13 @@ static struct name loans[] = {NAME(FILE_LOW), NAME(FILE_HIGH), NAME(LIST_LOW), N
 
 static struct name answers[] = {NAME(ENDING), NAME(WORD), NAME(BEATS), NAME(POINTS), NAME(FENCE_ADDRESS), LAST};
 
+static struct name listing_answers[] = {NAME(LISTING_REFUSAL), NAME(LISTING_LINE), NAME(LISTING_LENGTH), LAST};
+
 static struct name endings[] = {
     NAME(DONE), NAME(MEMORY_LENGTH), NAME(BUDGET_TOO_LARGE), NAME(BAD_LOAN), NAME(REGISTERS_OUT_OF_RANGE), NAME(UNKNOWN_OPERATION),
-    NAME(OPERAND_OUT_OF_RANGE), NAME(NOT_RUNNING), NAME(BUDGET_SPENT), NAME(INTERNAL_STOP), NAME(EXTERNAL_STOP), NAME(EDGE), NAME(UNUSABLE_MODE),
-    NAME(FETCH_OUTSIDE_LOAN), NAME(WIDE_WORD), NAME(POINTS_FULL), NAME(WRITE_OUTSIDE_LOAN), LAST};
+    NAME(OPERAND_OUT_OF_RANGE), NAME(LINE_NOT_IN_FORM), NAME(NOT_RUNNING), NAME(BUDGET_SPENT), NAME(INTERNAL_STOP), NAME(EXTERNAL_STOP), NAME(EDGE),
+    NAME(UNUSABLE_MODE), NAME(FETCH_OUTSIDE_LOAN), NAME(WIDE_WORD), NAME(POINTS_FULL), NAME(WRITE_OUTSIDE_LOAN), NAME(TEXT_TOO_SHORT),
+    NAME(WIDE_WORD_IN_RANGE), LAST};
 
 static struct name operations[] = {
     NAME(START), NAME(SET_POINTER), NAME(SET_CONDITIONS), NAME(RESUME), NAME(CLEAR), NAME(ASK_TO_STOP), NAME(PEN_LIGHT), NAME(PRESS_BUTTON),
@@ -37,13 +40,15 @@ static struct name operations[] = {
     NAME(READ_ADDRESS), NAME(READ_STATUS_1), NAME(READ_STATUS_2), NAME(READ_BUTTONS), LAST};
 
 /* What a call is lent. Each list has room to spare, so that a place with a wrong number stays inside it. */
-enum { SPARE = 64, ROOM = 8, TEXT = 1024, PARTS = 64, OPERATIONS = 1024 };
+enum { SPARE = 64, ROOM = 8, TEXT = 1024, PARTS = 64, OPERATIONS = 1024, WORDS = 4096 };
 static uint16_t registers[EVEGLOME_ROW + SPARE];
 static uint16_t loan[EVEGLOME_LOAN + SPARE];
 static uint16_t memory[EVEGLOME_MEMORY + SPARE];
 static uint32_t points[ROOM];
 static uint32_t answer[EVEGLOME_ANSWER + SPARE];
-static size_t memory_length, points_length;
+static uint8_t text_list[TEXT];
+static uint32_t listing_answer[EVEGLOME_LISTING_ANSWER + SPARE];
+static size_t memory_length, points_length, text_length;
 
 /* The row that is made, and whether anything was wrong. */
 static unsigned line;
@@ -100,6 +105,8 @@ static void set(char *setting) {
         memory_length = number;
     else if (strcmp(key, "room") == 0 && number <= ROOM)
         points_length = number;
+    else if (strcmp(key, "text") == 0 && number <= TEXT)
+        text_length = number;
     else if ((name = find(places, key)))
         registers[name->number] = (uint16_t)number;
     else if ((name = find(loans, key)))
@@ -135,17 +142,68 @@ static uint32_t operation_of(const char *text) {
     return (uint32_t)(name ? name->number : number_of(text));
 }
 
+/* The text that these parts are, a space between two: | is a newline, and - alone no text. Answers its length. */
+static size_t text_of(char *parts[], size_t count, uint8_t bytes[TEXT]) {
+    size_t length = 0;
+    if (count == 1 && strcmp(parts[0], "-") == 0) return 0;
+    for (size_t i = 0; i < count; i++) {
+        if (i > 0) bytes[length++] = ' ';
+        for (const char *at = parts[i]; *at; at++) bytes[length++] = (uint8_t)(*at == '|' ? '\n' : *at);
+    }
+    return length;
+}
+
+/* An ending of the table, and the number behind its @, or 0. */
+static size_t ending_and(char *part, size_t *behind) {
+    size_t ending = ending_of(cut(&part, '@'));
+    *behind = part ? number_of(part) : 0;
+    return ending;
+}
+
+/* A listing or a reading, whose parts before "gives" are so many. */
+static void call_listing(const char *clause, char *parts[], size_t count, size_t told) {
+    size_t refusal = EVEGLOME_DONE, refused_line = 0, length = 0;
+    static uint8_t bytes[TEXT];
+    uint32_t numbers[4];
+    int right = 1, listing = strcmp(parts[0], "list") == 0;
+    if (told < 5 || (listing ? told > 5 : told < 6 || told + 2 != count)) table_fault("no listing", clause);
+    for (size_t i = 0; i < 4; i++) numbers[i] = (uint32_t)number_of(parts[i + 1]);
+
+    if (listing) {
+        if (*parts[told + 1] >= 'A')
+            refusal = ending_and(parts[told + 1], &refused_line);
+        else
+            length = text_of(parts + told + 1, count - told - 1, bytes);
+        eveglome_list(memory, memory_length, numbers[0], numbers[1], numbers[2], numbers[3], text_list, text_length, listing_answer);
+        right = memcmp(text_list, bytes, length) == 0;
+    } else {
+        refusal = ending_and(parts[told + 1], &refused_line);
+        eveglome_read(bytes, text_of(parts + 5, told - 5, bytes), memory, memory_length, numbers[0], numbers[1], numbers[2], numbers[3], listing_answer);
+    }
+
+    right &= listing_answer[EVEGLOME_LISTING_REFUSAL] == refusal && listing_answer[EVEGLOME_LISTING_LINE] == refused_line &&
+             listing_answer[EVEGLOME_LISTING_LENGTH] == length;
+    if (right) return;
+    printf("line %u, %s: \"%s\", but it gave refusal %lu, line %lu, length %lu\n", line, shown, clause,
+           (unsigned long)listing_answer[EVEGLOME_LISTING_REFUSAL], (unsigned long)listing_answer[EVEGLOME_LISTING_LINE],
+           (unsigned long)listing_answer[EVEGLOME_LISTING_LENGTH]);
+    wrong = 1;
+}
+
 static void call(const char *clause, char *parts[], size_t count) {
     size_t told = 0, ending = EVEGLOME_DONE, word = 0, beats = 0, lit = 0, address = 0;
     int right = 1;
     while (told < count && strcmp(parts[told], "gives") != 0) told++;
-    if (told == 0 || told > 2 || told + 1 >= count) table_fault("no call", clause);
+    if (told == 0 || told + 1 >= count) table_fault("no call", clause);
+    if (strcmp(parts[0], "list") == 0 || strcmp(parts[0], "read") == 0) {
+        call_listing(clause, parts, count, told);
+        return;
+    }
+    if (told > 2) table_fault("no call", clause);
 
     if (strcmp(parts[0], "run") == 0) {
         if (told != 2 || count < 5) table_fault("no run", clause);
-        char *behind = parts[told + 1];
-        ending = ending_of(cut(&behind, '@'));
-        address = behind ? number_of(behind) : 0;
+        ending = ending_and(parts[told + 1], &address);
         beats = number_of(parts[told + 2]);
         lit = count - (told + 3);
         eveglome_run(registers, loan, memory, memory_length, points, points_length, (uint32_t)number_of(parts[1]), answer);
@@ -176,8 +234,8 @@ static void make_row(char *text) {
     char *names = cut(&text, ':'), *parts[PARTS];
     strcpy(shown, names);
     for (size_t i = 0, count = split(names, parts); i < count; i++) {
-        struct name *lists[] = {places, loans, answers, endings, operations}, *name = NULL;
-        for (size_t list = 0; list < 5 && !name; list++) name = find(lists[list], parts[i]);
+        struct name *lists[] = {places, loans, answers, listing_answers, endings, operations}, *name = NULL;
+        for (size_t list = 0; list < 6 && !name; list++) name = find(lists[list], parts[i]);
         if (!name) table_fault("no such name", parts[i]);
         name->shown = 1;
     }
@@ -188,6 +246,7 @@ static void make_row(char *text) {
     memset(memory, 0, sizeof memory);
     memory_length = EVEGLOME_MEMORY;
     points_length = ROOM;
+    text_length = TEXT;
     while (text) {
         char *clause = cut(&text, ';'), whole[TEXT];
         clause += strspn(clause, " ");
@@ -235,17 +294,35 @@ static void ask_for_operations(void) {
     }
 }
 
-/* Fresh registers and the answer of a read of them are all 0: as many numbers as are written over a list of other numbers. */
+/* Fresh registers, the answer of a read of them and that of an empty listing are all 0: as many numbers as are written over a list of other numbers. */
 static void count_places(void) {
-    size_t row = 0, told = 0;
+    size_t row = 0, told = 0, listed = 0;
     memset(registers, 0xff, sizeof registers);
     memset(answer, 0xff, sizeof answer);
+    memset(listing_answer, 0xff, sizeof listing_answer);
     eveglome_fresh(registers);
     eveglome_operate(registers, 20, 0, answer);
+    eveglome_list(memory, EVEGLOME_MEMORY, 0, 0, 0, 0, text_list, 0, listing_answer);
     while (row < EVEGLOME_ROW + SPARE && registers[row] == 0) row++;
     while (told < EVEGLOME_ANSWER + SPARE && answer[told] == 0) told++;
-    if (row != EVEGLOME_ROW || told != EVEGLOME_ANSWER) {
-        printf("ROW, ANSWER: a row has %lu numbers, an answer %lu\n", (unsigned long)row, (unsigned long)told);
+    while (listed < EVEGLOME_LISTING_ANSWER + SPARE && listing_answer[listed] == 0) listed++;
+    if (row != EVEGLOME_ROW || told != EVEGLOME_ANSWER || listed != EVEGLOME_LISTING_ANSWER) {
+        printf("ROW, ANSWER, LISTING_ANSWER: a row has %lu numbers, an answer %lu, that of a listing %lu\n", (unsigned long)row, (unsigned long)told,
+               (unsigned long)listed);
+        wrong = 1;
+    }
+}
+
+/* No word has a longer line than in control state, in which mnemonics stand: so many bytes for each word of memory are room for any listing. */
+static void measure_lines(void) {
+    size_t longest = 0;
+    for (size_t word = 0; word < WORDS; word++) {
+        memory[0] = (uint16_t)word;
+        eveglome_list(memory, EVEGLOME_MEMORY, 0, 1, 0, 0, text_list, TEXT, listing_answer);
+        if (listing_answer[EVEGLOME_LISTING_LENGTH] > longest) longest = listing_answer[EVEGLOME_LISTING_LENGTH];
+    }
+    if (longest * EVEGLOME_MEMORY != EVEGLOME_LONGEST_LISTING) {
+        printf("LONGEST_LISTING: the longest line has %lu bytes, so a listing up to %lu\n", (unsigned long)longest, (unsigned long)(longest * EVEGLOME_MEMORY));
         wrong = 1;
     }
 }
@@ -258,6 +335,7 @@ int main(int count, char **arguments) {
         return 2;
     }
     count_places();
+    measure_lines();
     while (fgets(text, sizeof text, table)) {
         char *end = strchr(text, '\n');
         line++;
@@ -269,6 +347,7 @@ int main(int count, char **arguments) {
     ask_for_rows(places, EVEGLOME_ROW, "ROW");
     ask_for_rows(loans, EVEGLOME_LOAN, "LOAN");
     ask_for_rows(answers, EVEGLOME_ANSWER, "ANSWER");
+    ask_for_rows(listing_answers, EVEGLOME_LISTING_ANSWER, "LISTING_ANSWER");
     ask_for_rows(endings, 0, "endings");
     ask_for_rows(operations, 0, "operations");
     ask_for_operations();

@@ -1,20 +1,24 @@
 //! Eveglome for Rust: a proved simulator of the DEC 338 display, behind a safe interface.
 //!
 //! Whatever numbers arrive, a call is refused or done: nothing has to be checked first. A refused
-//! call leaves registers, memory and points as they were. The exact rules are document
+//! call leaves registers, memory, points and text as they were. The exact rules are document
 //! 01's, with what the requests of document 02 change in them; docs/MACHINE.md tells them.
 //!
-//! [`fresh`], [`operate`] and [`run`] are the calls. Their numbers have names: [`place`] names the
-//! registers, [`operation`] the host operations, [`ending`] the refusals and how a run ended.
-//! [`Point::of`] takes a lit point apart.
+//! [`fresh`], [`operate`] and [`run`] are the display's calls; [`list`] writes words as lines with
+//! the manual's mnemonics, and [`read`] reads such lines back. Their numbers have names: [`place`]
+//! names the registers, [`operation`] the host operations, [`ending`] the refusals and how a run
+//! ended. [`Point::of`] takes a lit point apart.
 #![deny(missing_docs)]
 
 #[cfg(test)]
 mod meaning;
 mod numbers;
 
-use numbers::{answer, loan};
-pub use numbers::{ending, operation, place, MEMORY};
+use std::error::Error;
+use std::fmt::{self, Display, Formatter};
+
+use numbers::{answer, listing_answer, loan};
+pub use numbers::{ending, operation, place, LONGEST_LISTING, MEMORY};
 
 /// The example of the README, which is tested with the documentation.
 #[cfg(doctest)]
@@ -58,7 +62,7 @@ impl Loan {
     }
 }
 
-/// What a call answers. A refusal has word 0, beats 0, points 0 and address 0.
+/// What an operation or a run answers. A refusal has word 0, beats 0, points 0 and address 0.
 #[derive(Clone, Copy, Debug, PartialEq, Eq)]
 pub struct Answer {
     /// One of [`ending`]: a refusal, how a run ended, or 0 for an operation that was done.
@@ -112,6 +116,53 @@ impl Point {
     }
 }
 
+/// Which words are listed or read, and what the display is in before the first of them. No jump is
+/// followed.
+#[derive(Clone, Copy, Debug, PartialEq, Eq)]
+pub struct Stretch {
+    /// The first word, up to `high`; above it is refusal 3.
+    pub low: u32,
+    /// The word behind the last, up to 32,768; above is refusal 3.
+    pub high: u32,
+    /// 0 control, 1 data; above is refusal 6.
+    pub state: u32,
+    /// Up to 7; above is refusal 6.
+    pub mode: u32,
+}
+
+/// Why words were not listed, or a text not read. Then nothing was written.
+#[derive(Clone, Copy, Debug, PartialEq, Eq)]
+pub struct Refusal {
+    /// One of [`ending`]: 1, 3 or 6; of a listing 24 or 23, of a reading 7.
+    pub number: u32,
+    /// With [`ending::LINE_NOT_IN_FORM`] the number of the first such line, from 1 up to 32,769;
+    /// else 0.
+    pub line: u32,
+}
+
+impl Display for Refusal {
+    fn fmt(&self, out: &mut Formatter) -> fmt::Result {
+        write!(out, "refused as {}", self.number)?;
+        match self.line {
+            0 => Ok(()),
+            line => write!(out, ": line {line} is not in form"),
+        }
+    }
+}
+
+impl Error for Refusal {}
+
+/// How many bytes a listing wrote, or why there is none.
+fn listing_of(numbers: [u32; listing_answer::LISTING_ANSWER]) -> Result<usize, Refusal> {
+    match numbers[listing_answer::LISTING_REFUSAL] {
+        ending::DONE => Ok(numbers[listing_answer::LISTING_LENGTH] as usize),
+        number => Err(Refusal {
+            number,
+            line: numbers[listing_answer::LISTING_LINE],
+        }),
+    }
+}
+
 // A slice is handed over as its pointer and its count.
 extern "C" {
     fn eveglome_fresh(registers: &mut [u16; place::ROW]);
@@ -130,6 +181,28 @@ extern "C" {
         points_length: usize,
         budget: u32,
         answer: &mut [u32; answer::ANSWER],
+    );
+    fn eveglome_list(
+        memory: *const u16,
+        memory_length: usize,
+        low: u32,
+        high: u32,
+        state: u32,
+        mode: u32,
+        text: *mut u8,
+        text_length: usize,
+        answer: &mut [u32; listing_answer::LISTING_ANSWER],
+    );
+    fn eveglome_read(
+        text: *const u8,
+        text_length: usize,
+        memory: *mut u16,
+        memory_length: usize,
+        low: u32,
+        high: u32,
+        state: u32,
+        mode: u32,
+        answer: &mut [u32; listing_answer::LISTING_ANSWER],
     );
 }
 
@@ -177,4 +250,55 @@ pub fn run(
         )
     };
     Answer::of(numbers)
+}
+
+/// Lists the words of a stretch, and answers how many bytes of `text` the lines fill, from the
+/// first; the rest stays.
+///
+/// A word is a line: its address in five octal digits and the word in four; then, unless it is a
+/// data word or the second word of a jump, the manual's mnemonics, and in octal the bits that none
+/// of them covers, unless 0. One space stands between two fields, and a newline behind the last. 43
+/// bytes for each word are always enough, and [`LONGEST_LISTING`] for all. Refused as 1, 3, 6, 24
+/// or 23, in this order.
+pub fn list(memory: &[u16], stretch: Stretch, text: &mut [u8]) -> Result<usize, Refusal> {
+    let mut numbers = [0; listing_answer::LISTING_ANSWER];
+    // SAFETY: as in `run`; the memory is only read.
+    unsafe {
+        eveglome_list(
+            memory.as_ptr(),
+            memory.len(),
+            stretch.low,
+            stretch.high,
+            stretch.state,
+            stretch.mode,
+            text.as_mut_ptr(),
+            text.len(),
+            &mut numbers,
+        )
+    };
+    listing_of(numbers)
+}
+
+/// Reads a listing back into the words of a stretch, and changes no other word.
+///
+/// Taken are exactly the texts that [`list`] writes for some words of this stretch: every byte
+/// counts, and a line missing or too many is not in form. What the words were before does not
+/// matter. Refused as 1, 3, 6 or 7, in this order.
+pub fn read(text: &[u8], memory: &mut [u16], stretch: Stretch) -> Result<(), Refusal> {
+    let mut numbers = [0; listing_answer::LISTING_ANSWER];
+    // SAFETY: as in `run`; the text is only read.
+    unsafe {
+        eveglome_read(
+            text.as_ptr(),
+            text.len(),
+            memory.as_mut_ptr(),
+            memory.len(),
+            stretch.low,
+            stretch.high,
+            stretch.state,
+            stretch.mode,
+            &mut numbers,
+        )
+    };
+    listing_of(numbers).map(|_| ())
 }

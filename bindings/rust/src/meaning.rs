@@ -1,12 +1,13 @@
 //! The names held to their meaning: every row of `../../meaning.table` is made with them, every
 //! name has a row, and every operation a name.
 
-use crate::numbers::{answer, ending, loan, operation, place};
-use crate::{eveglome_fresh, eveglome_operate, fresh, operate, run};
-use crate::{Answer, Loan, Point, Row, MEMORY};
+use crate::numbers::{answer, ending, listing_answer, loan, operation, place};
+use crate::{eveglome_fresh, eveglome_list, eveglome_operate, fresh, list, operate, read, run};
+use crate::{Answer, Loan, Point, Refusal, Row, Stretch, MEMORY};
 
 const TABLE: &str = include_str!("../../meaning.table");
 const ROOM: usize = 8;
+const TEXT: usize = 1_024;
 /// Every operation has a number below this.
 const OPERATIONS: u32 = 1_024;
 /// More room than a list wants, so that a count with a wrong number stays inside it.
@@ -57,12 +58,33 @@ fn point_of(text: &str) -> (u32, Point) {
     (x + (y << 10) + (intensity << 20) + (blink << 23), point)
 }
 
+/// The text of the table that these words are, a space between two.
+fn text_of(words: &[&str]) -> Vec<u8> {
+    match words {
+        ["-"] => Vec::new(),
+        _ => words.join(" ").replace('|', "\n").into_bytes(),
+    }
+}
+
+/// A refusal of the table, if it is none of `DONE`.
+fn refusal_of(text: &str) -> Result<(), Refusal> {
+    let (name, line) = text.split_once('@').unwrap_or((text, "0"));
+    match name {
+        "DONE" => Ok(()),
+        _ => Err(Refusal {
+            number: ending_of(name),
+            line: number(line),
+        }),
+    }
+}
+
 /// What a call is lent.
 struct Desk {
     row: Row,
     loan: Loan,
     memory: Vec<u16>,
     points: Vec<u32>,
+    text: Vec<u8>,
 }
 
 impl Desk {
@@ -72,6 +94,7 @@ impl Desk {
             loan: Loan::ALL,
             memory: vec![0; MEMORY],
             points: vec![0; ROOM],
+            text: vec![0; TEXT],
         }
     }
 
@@ -85,6 +108,7 @@ impl Desk {
             match key {
                 "memory" => self.memory.resize(number(text) as usize, 0),
                 "room" => self.points.resize(number(text) as usize, 0),
+                "text" => self.text.resize(number(text) as usize, 0),
                 "FILE_LOW" => self.loan.file_low = narrow(text),
                 "FILE_HIGH" => self.loan.file_high = narrow(text),
                 "LIST_LOW" => self.loan.list_low = narrow(text),
@@ -94,13 +118,39 @@ impl Desk {
         }
     }
 
+    /// Makes a listing or a reading and answers what it gave, the text or nothing where it was
+    /// done, and what the table says that it gives.
+    fn call_listing(&mut self, asked: &[&str], told: &[&str]) -> [Result<Vec<u8>, Refusal>; 2] {
+        let &[call, low, high, state, mode, ref text @ ..] = asked else {
+            panic!("no listing: {asked:?}")
+        };
+        let stretch = Stretch {
+            low: number(low),
+            high: number(high),
+            state: number(state),
+            mode: number(mode),
+        };
+        match (call, text, told) {
+            ("list", [], _) => {
+                let gave = list(&self.memory, stretch, &mut self.text);
+                let gave = gave.map(|length| self.text[..length].to_vec());
+                let says = if told[0].starts_with(|first: char| first.is_ascii_uppercase()) {
+                    refusal_of(told[0]).map(|()| Vec::new())
+                } else {
+                    Ok(text_of(told))
+                };
+                [gave, says]
+            }
+            ("read", [_, ..], [told]) => {
+                let gave = read(&text_of(text), &mut self.memory, stretch);
+                [gave, refusal_of(told)].map(|answer| answer.map(|()| Vec::new()))
+            }
+            _ => panic!("no listing: {asked:?}"),
+        }
+    }
+
     /// Makes a call and answers what it gave, and what the table says that it gives.
-    fn call(&mut self, clause: &str) -> [(Answer, Vec<(u32, Point)>); 2] {
-        let (asked, told) = clause
-            .split_once(" gives ")
-            .expect("a call gives something");
-        let asked: Vec<&str> = asked.split_whitespace().collect();
-        let told: Vec<&str> = told.split_whitespace().collect();
+    fn call(&mut self, asked: &[&str], told: &[&str]) -> [(Answer, Vec<(u32, Point)>); 2] {
         let just = Answer {
             ending: ending::DONE,
             word: 0,
@@ -108,7 +158,7 @@ impl Desk {
             points: 0,
             address: 0,
         };
-        match (&asked[..], &told[..]) {
+        match (asked, told) {
             (["run", budget], [ending, beats, points @ ..]) => {
                 let (memory, list) = (&mut self.memory, &mut self.points);
                 let gave = run(&mut self.row, self.loan, memory, list, number(budget));
@@ -141,7 +191,23 @@ impl Desk {
                 };
                 [(gave, Vec::new()), (says, Vec::new())]
             }
-            _ => panic!("no call: {clause}"),
+            _ => panic!("no call: {asked:?}"),
+        }
+    }
+
+    /// What a call gave, if that is not what the table says.
+    fn wrong(&mut self, clause: &str) -> Option<String> {
+        let (asked, told) = clause
+            .split_once(" gives ")
+            .expect("a call gives something");
+        let asked: Vec<&str> = asked.split_whitespace().collect();
+        let told: Vec<&str> = told.split_whitespace().collect();
+        if ["list", "read"].contains(&asked[0]) {
+            let [gave, says] = self.call_listing(&asked, &told);
+            (gave != says).then(|| format!("{gave:?}"))
+        } else {
+            let [gave, says] = self.call(&asked, &told);
+            (gave != says).then(|| format!("{gave:?}"))
         }
     }
 }
@@ -169,9 +235,8 @@ fn every_row_of_the_table_is_as_it_says() {
                     .for_each(|setting| desk.set(setting));
                 continue;
             }
-            let [gave, says] = desk.call(clause);
-            if gave != says {
-                wrong += &format!("line {line}, {names}: {clause}, but it gave {gave:?}\n");
+            if let Some(gave) = desk.wrong(clause) {
+                wrong += &format!("line {line}, {names}: {clause}, but it gave {gave}\n");
             }
         }
     }
@@ -180,12 +245,12 @@ fn every_row_of_the_table_is_as_it_says() {
 
 /// All names but those that say how many places there are.
 fn names() -> impl Iterator<Item = &'static str> {
-    let places = [place::ALL, loan::ALL, answer::ALL].concat();
+    let places = [place::ALL, loan::ALL, answer::ALL, listing_answer::ALL].concat();
     let others = [ending::ALL, operation::ALL].concat();
     places
         .into_iter()
         .map(|(name, _)| name)
-        .filter(|name| !["ROW", "LOAN", "ANSWER"].contains(name))
+        .filter(|name| !["ROW", "LOAN", "ANSWER", "LISTING_ANSWER"].contains(name))
         .chain(others.into_iter().map(|(name, _)| name))
 }
 
@@ -210,6 +275,7 @@ fn every_place_has_a_name() {
         (place::ALL, place::ROW),
         (loan::ALL, loan::LOAN),
         (answer::ALL, answer::ANSWER),
+        (listing_answer::ALL, listing_answer::LISTING_ANSWER),
     ] {
         let mut numbers: Vec<usize> = names.iter().map(|&(_, number)| number).collect();
         numbers.sort();
@@ -228,20 +294,35 @@ fn every_operation_has_a_name() {
     assert_eq!(named, Vec::from_iter((0..OPERATIONS).filter(known)));
 }
 
-/// Fresh registers and the answer of a read of them are all 0: as many numbers as are written over
-/// a list of other numbers.
+/// Fresh registers, the answer of a read of them and that of an empty listing are all 0: as many
+/// numbers as are written over a list of other numbers.
 #[test]
 fn a_row_and_an_answer_have_as_many_numbers_as_are_counted() {
     let mut row = [u16::MAX; place::ROW + SPARE];
     let mut told = [u32::MAX; answer::ANSWER + SPARE];
+    let mut listed = [u32::MAX; listing_answer::LISTING_ANSWER + SPARE];
+    let memory = vec![0; MEMORY];
+    let mut text = [0; 0];
     // SAFETY: each list is longer than what the calls write, also where the count is wrong.
     unsafe {
         let row = &mut *row.as_mut_ptr().cast();
         eveglome_fresh(row);
         eveglome_operate(row, 20, 0, &mut *told.as_mut_ptr().cast());
+        eveglome_list(
+            memory.as_ptr(),
+            memory.len(),
+            0,
+            0,
+            0,
+            0,
+            text.as_mut_ptr(),
+            0,
+            &mut *listed.as_mut_ptr().cast(),
+        );
     }
     let written = row.iter().take_while(|&&number| number == 0).count();
     assert_eq!(written, place::ROW);
-    let written = told.iter().take_while(|&&number| number == 0).count();
-    assert_eq!(written, answer::ANSWER);
+    let written = |told: &[u32]| told.iter().take_while(|&&number| number == 0).count();
+    assert_eq!(written(&told), answer::ANSWER);
+    assert_eq!(written(&listed), listing_answer::LISTING_ANSWER);
 }

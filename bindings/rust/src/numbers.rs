@@ -3,6 +3,10 @@
 /// How many words a memory has.
 pub const MEMORY: usize = 32_768;
 
+/// How many bytes are room for any listing: the words of all memory, with the longest line, which
+/// has 43 bytes.
+pub const LONGEST_LISTING: usize = 1_409_024;
+
 /// A module of constants, and in tests the list of them.
 macro_rules! names {
     ($(#[$about:meta])* $module:ident: $type:ty {
@@ -121,7 +125,7 @@ names! {
 }
 
 names! {
-    /// The places of an answer.
+    /// The places of an operation's or a run's answer.
     answer: usize {
         ENDING = 0,
         WORD = 1,
@@ -133,23 +137,37 @@ names! {
 }
 
 names! {
-    /// How a call ended: 0 for an operation that was done, 1 to 6 refused, 10 to 19 how a run
-    /// ended. A run ends at the fence with 16 or 19.
+    /// The places of a listing's or a reading's answer.
+    listing_answer: usize {
+        LISTING_REFUSAL = 0,
+        LISTING_LINE = 1,
+        LISTING_LENGTH = 2,
+        LISTING_ANSWER = 3,
+    }
+}
+
+names! {
+    /// How a call ended: 0 for an operation, a listing or a reading that was done, 1 to 7, 23 and
+    /// 24 refused, 10 to 19 how a run ended. A run ends at the fence with 16 or 19.
     ending: u32 {
-        /// An operation was done.
+        /// An operation, a listing or a reading was done.
         DONE = 0,
         /// Memory is not 32,768 long.
         MEMORY_LENGTH = 1,
         /// Budget above 65,535.
         BUDGET_TOO_LARGE = 2,
-        /// Low above high, or high above 32,768.
+        /// Low above high, or high above 32,768, of a loan or of the range that is listed or read.
         BAD_LOAN = 3,
         /// Outside the limits that stand in [`crate::place`].
         REGISTERS_OUT_OF_RANGE = 4,
         /// None of [`crate::operation`].
         UNKNOWN_OPERATION = 5,
-        /// Above what the operation takes.
+        /// Above what the operation takes; of a listing or a reading, a state above 1 or a mode
+        /// above 7.
         OPERAND_OUT_OF_RANGE = 6,
+        /// A text that is no listing of that range from that state and mode; its first wrong line
+        /// is told.
+        LINE_NOT_IN_FORM = 7,
         /// Not running at entry.
         NOT_RUNNING = 10,
         /// Still running.
@@ -170,6 +188,10 @@ names! {
         POINTS_FULL = 18,
         /// Still running, before a push's write outside the list range.
         WRITE_OUTSIDE_LOAN = 19,
+        /// The text list has fewer bytes than the listing.
+        TEXT_TOO_SHORT = 23,
+        /// A word of the range that is to be listed is above 4,095.
+        WIDE_WORD_IN_RANGE = 24,
     }
 }
 
@@ -256,8 +278,22 @@ mod tests {
         assert_eq!(header("enum eveglome_place {"), here(super::place::ALL));
         assert_eq!(header("enum eveglome_loan {"), here(super::loan::ALL));
         assert_eq!(header("enum eveglome_answer {"), here(super::answer::ALL));
+        let listing = header("enum eveglome_listing_answer {");
+        assert_eq!(listing, here(super::listing_answer::ALL));
         assert_eq!(header("enum eveglome_ending {"), here(super::ending::ALL));
         let operations = header("enum eveglome_operation {");
         assert_eq!(operations, here(super::operation::ALL));
+    }
+
+    #[test]
+    fn the_header_has_the_same_lengths() {
+        let text = include_str!("../../eveglome.h");
+        for (name, number) in [
+            ("MEMORY", super::MEMORY),
+            ("LONGEST_LISTING", super::LONGEST_LISTING),
+        ] {
+            let line = format!("#define EVEGLOME_{name} {number}");
+            assert!(text.lines().any(|found| found == line), "{line}");
+        }
     }
 }

@@ -1,6 +1,7 @@
 //! The calls, done and refused, through the safe interface.
 
-use eveglome::{ending, fresh, operate, operation, place, run, Answer, Loan, Row, MEMORY};
+use eveglome::{ending, fresh, list, operate, operation, place, read, run};
+use eveglome::{Answer, Loan, Refusal, Row, Stretch, LONGEST_LISTING, MEMORY};
 
 /// An ending with no word, no beats, no points and no address, as every refusal is.
 fn just(ending: u32) -> Answer {
@@ -247,4 +248,147 @@ fn runs_are_refused_in_the_order_1_2_3_4() {
         assert_eq!(memory, vec![0o2010; length]);
         assert_eq!(points, [7; 3]);
     }
+}
+
+/// A stretch of words that begins in control state and mode 0.
+fn control(low: u32, high: u32) -> Stretch {
+    Stretch {
+        low,
+        high,
+        state: 0,
+        mode: 0,
+    }
+}
+
+/// A refusal that tells no line.
+fn refused<T>(number: u32) -> Result<T, Refusal> {
+    Err(Refusal { number, line: 0 })
+}
+
+fn not_in_form<T>(line: u32) -> Result<T, Refusal> {
+    Err(Refusal {
+        number: ending::LINE_NOT_IN_FORM,
+        line,
+    })
+}
+
+/// Document 01's example as a listing; what stands behind it stays.
+#[test]
+fn words_are_listed_and_read_back() {
+    let mut memory = vec![0; MEMORY];
+    memory[0o200..0o204].copy_from_slice(&[0o1101, 0o4144, 0o4310, 0o1400]);
+    let mut text = [b'?'; 60];
+    let length = list(&memory, control(0o200, 0o204), &mut text).unwrap();
+    let listing = b"00200 1101 POINT EDS\n00201 4144\n00202 4310\n00203 1400 STOP\n";
+    assert_eq!(&text[..length], listing);
+    assert_eq!(text[length..], [b'?']);
+
+    let mut copy = vec![7; MEMORY];
+    let mut wanted = copy.clone();
+    wanted[0o200..0o204].copy_from_slice(&memory[0o200..0o204]);
+    assert_eq!(read(listing, &mut copy, control(0o200, 0o204)), Ok(()));
+    assert_eq!(copy, wanted);
+}
+
+/// Each line stands in one word's listing, so that all are measured; and a memory full of the word
+/// that has the longest is as long as any.
+#[test]
+fn no_line_has_more_than_43_bytes() {
+    let mut text = vec![0; LONGEST_LISTING];
+    let mut memory = vec![0; MEMORY];
+    let lengths = (0..4_096).map(|word| {
+        memory[0] = word;
+        list(&memory, control(0, 1), &mut text).unwrap()
+    });
+    assert_eq!(lengths.max(), Some(LONGEST_LISTING / MEMORY));
+    assert_eq!(LONGEST_LISTING / MEMORY, 43);
+
+    let memory = vec![0o6277; MEMORY];
+    let all = control(0, MEMORY as u32);
+    assert_eq!(list(&memory, all, &mut text), Ok(LONGEST_LISTING));
+    let short = &mut text[1..];
+    assert_eq!(list(&memory, all, short), refused(ending::TEXT_TOO_SHORT));
+}
+
+/// Each call has every fault from its own number on, so that the order is seen too.
+#[test]
+fn listings_are_refused_in_the_order_1_3_6_24_23() {
+    let crossed = Stretch {
+        state: 2,
+        ..control(1, 0)
+    };
+    let above = Stretch {
+        mode: 8,
+        ..control(0, 32_769)
+    };
+    let far = Stretch {
+        mode: 8,
+        ..control(65_536, 65_537)
+    };
+    let started = |state, mode| Stretch {
+        state,
+        mode,
+        ..control(0, 1)
+    };
+    for (stretch, length, word, number) in [
+        (crossed, MEMORY - 1, 4_096, ending::MEMORY_LENGTH),
+        (crossed, MEMORY + 1, 4_096, ending::MEMORY_LENGTH),
+        (crossed, 0, 4_096, ending::MEMORY_LENGTH),
+        (crossed, MEMORY, 4_096, ending::BAD_LOAN),
+        (above, MEMORY, 4_096, ending::BAD_LOAN),
+        (far, MEMORY, 4_096, ending::BAD_LOAN),
+        (started(2, 0), MEMORY, 4_096, ending::OPERAND_OUT_OF_RANGE),
+        (started(0, 8), MEMORY, 4_096, ending::OPERAND_OUT_OF_RANGE),
+        (started(256, 0), MEMORY, 4_096, ending::OPERAND_OUT_OF_RANGE),
+        (
+            started(0, u32::MAX),
+            MEMORY,
+            4_096,
+            ending::OPERAND_OUT_OF_RANGE,
+        ),
+        (started(1, 7), MEMORY, 4_096, ending::WIDE_WORD_IN_RANGE),
+        (started(1, 7), MEMORY, 4_095, ending::TEXT_TOO_SHORT),
+    ] {
+        let memory = vec![word; length];
+        let mut text = [b'?'; 10];
+        assert_eq!(list(&memory, stretch, &mut text), refused(number));
+        assert_eq!(text, [b'?'; 10]);
+    }
+}
+
+/// A refused reading changes no word, also none of the lines in form before the first that is not.
+#[test]
+fn readings_are_refused_in_the_order_1_3_6_7() {
+    let crossed = Stretch {
+        state: 2,
+        ..control(1, 0)
+    };
+    let mode_8 = Stretch {
+        mode: 8,
+        ..control(0, 2)
+    };
+    let text = b"00000 1400 STOP\n00001 1400\n";
+    for (stretch, length, answer) in [
+        (crossed, MEMORY - 1, refused(ending::MEMORY_LENGTH)),
+        (crossed, MEMORY, refused(ending::BAD_LOAN)),
+        (mode_8, MEMORY, refused(ending::OPERAND_OUT_OF_RANGE)),
+        (control(0, 2), MEMORY, not_in_form(2)),
+        (control(0, 1), MEMORY, not_in_form(2)),
+        (control(0, 0), MEMORY, not_in_form(1)),
+        (control(1, 2), MEMORY, not_in_form(1)),
+    ] {
+        let mut memory = vec![7; length];
+        assert_eq!(read(text, &mut memory, stretch), answer);
+        assert_eq!(memory, vec![7; length]);
+    }
+}
+
+#[test]
+fn a_refusal_says_its_number_and_its_line() {
+    let text = |number, line| Refusal { number, line }.to_string();
+    assert_eq!(text(ending::TEXT_TOO_SHORT, 0), "refused as 23");
+    assert_eq!(
+        text(ending::LINE_NOT_IN_FORM, 4),
+        "refused as 7: line 4 is not in form"
+    );
 }

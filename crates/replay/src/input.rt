@@ -164,7 +164,7 @@ fn within(r: Reader) -> bool {
     r.valid & !r.over & (r.byte != b'\n')
 }
 
-// Reads the bytes of a text, of which the first was read last, up to the line's newline.
+// Reads the bytes of a text, of which the first was read last, up to the line's newline, or as many as the list has.
 fn bytes(r: Reader, block: &mut Block, text: &mut Text) -> Reader {
     let mut q = r;
     let mut length = 0;
@@ -198,5 +198,6 @@ pub(crate) fn text(r: Reader, block: &mut Block, text: &mut Text) -> Reader {
     } else {
         ended(q)
     };
-    ended(cleared(bytes(p, block, text), text))
+    // No listing has as many bytes as the list, so what finds no room there changes no answer.
+    ended(skip(cleared(bytes(p, block, text), text), block))
 }

@@ -16,7 +16,8 @@ const SIZE: usize = 4096;
 
 type Block = [u8; SIZE];
 
-// The largest memory that a case can lend, one word above the machine's, the longest point list, and the longest text.
+// The largest memory that a case can lend, one word above the machine's, the longest point list, and the longest text list: a listing of all of memory has at
+// most 1,409,024 bytes.
 type Memory = [u16; 32769];
 
 type Points = [u32; 65536];

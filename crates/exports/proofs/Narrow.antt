@@ -6,8 +6,7 @@ use mathlib.Core.List.{List}
 use native.Mathlib.Omega.{arith}
 use lib.Dec.{leb, eqb}
 use lib.ListN.{length}
-use borrow.Author.Tests.{leb-true, leb-false, lt-leb, eqb-true, eqb-false, not-false}
-use Rattle.words.specs.Words.{pick}
+use borrow.Author.Tests.{leb-true, leb-false, lt-leb, eqb-true, eqb-false}
 use Rattle.words.proofs.Laws.{pick-case, both}
 use Rattle.loan.specs.Loan.{fairRange}
 use Rattle.listing.specs.declared.Listed.the-variants.{Refused}

@@ -13,7 +13,8 @@ use Rattle.listed_lines.specs.declared.Standing.{Standing}
 use Rattle.listed_lines.specs.ListedLines.{starting}
 use Rattle.listing.specs.declared.Measured.{Measured}
 use Rattle.listing.specs.declared.Listed.the-variants.{Refused, Done}
-use Rattle.listing.specs.Listing.{linesOf, text, good, measured, refusal, leaves, listed}
+use Rattle.listing.specs.Listing.{linesOf, text, good, refusal, leaves, listed}
+use Rattle.listing.specs.Measuring.{measured}
 
 pub refused : (m : List ℕ) (low high state mode : ℕ) (t : List ℕ) {n : ℕ} → n ≡ refusal (length m) low high state mode → (n ≡ 0 → ⊥) →
     leaves (Refused n) t ≡ listed m low high state mode t

@@ -13,7 +13,8 @@ use Rattle.text.proofs.Puts.{behind}
 use Rattle.listed_lines.specs.declared.Standing.{Standing}
 use Rattle.listed_lines.specs.ListedLines.{after, shown, lineOf}
 use Rattle.listing.specs.declared.Measured.{Measured}
-use Rattle.listing.specs.Listing.{linesOf, good, measured}
+use Rattle.listing.specs.Listing.{linesOf, good}
+use Rattle.listing.specs.Measuring.{measured}
 
 -- what was measured before a rest
 abbrev pub also : Bool → ℕ → Measured → Measured

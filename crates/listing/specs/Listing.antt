@@ -12,7 +12,6 @@ use Rattle.listed_lines.specs.ListedLines.{starting, after, shown, lineOf}
 use Rattle.listing.specs.declared.Listed.{Listed}
 use Rattle.listing.specs.declared.Listed.the-variants.{Refused, Done}
 use Rattle.listing.specs.declared.ListingNumbers.{ListingNumbers}
-use Rattle.listing.specs.declared.Measured.{Measured}
 
 -- THE TEXT: one line a word, from an address and a standing on
 unfoldable pub linesOf : ℕ → Standing → List ℕ → List ℕ
@@ -27,9 +26,6 @@ text m low high state mode = linesOf low (starting state mode) (slice low high m
 unfoldable pub good : List ℕ → Bool
 good [] = true
 good (w ∷ ws) = leb w 4095 && good ws
-
-abbrev pub measured : ℕ → Standing → List ℕ → Measured
-measured a s ws = record { good = good ws; length = length (linesOf a s ws) }
 
 -- THE CALL
 

@@ -5,7 +5,8 @@ ghost use lib.ListN.{length};
 ghost use lib.Seq.{slice};
 ghost use Rattle.text.specs.Text.{filled, puts};
 ghost use Rattle.listed_lines.specs.ListedLines.{lineOf};
-ghost use Rattle.listing.specs.Listing.{refusal, measured, linesOf, numbered, leaves, listed};
+ghost use Rattle.listing.specs.Listing.{refusal, linesOf, numbered, leaves, listed};
+ghost use Rattle.listing.specs.Measuring.{measured};
 use listed_lines::Standing;
 
 // No line is longer: ten bytes, 55 names with a space each, a space and four digits, a newline.
@@ -27,9 +28,9 @@ pub struct ListingNumbers {
 }
 
 // Whether all words of a range are good, and how long their lines are.
-pub struct Measured {
-    pub good: bool,
-    pub length: usize,
+struct Measured {
+    good: bool,
+    length: usize,
 }
 
 // The numbers of an answer.

@@ -10,7 +10,8 @@ use lib.Seq.{drop-cons, drop-length}
 use Rattle.words.specs.Words.{pick}
 use Rattle.text.specs.Text.{Filled, puts}
 use Rattle.text.proofs.Puts.{behind}
-use Rattle.mnemonics.specs.Mnemonics.{rows, rowAt, letters, name, namesIn, uncovered, restIn}
+use Rattle.mnemonics.specs.Mnemonics.{rows, letters, name, namesIn, uncovered, restIn}
+use Rattle.mnemonics.specs.RowAt.{rowAt}
 use Rattle.mnemonics.proofs.Table.{rows-length}
 
 letters-cons : (b : ℕ) (bs : List ℕ) → letters (b ∷ bs) ≡ letters (b ∷ []) ++ letters bs

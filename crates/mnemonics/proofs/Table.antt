@@ -11,7 +11,8 @@ use Rattle.words.proofs.Laws.{both}
 use Rattle.words.proofs.Tables.{every, every-at, joined, joined-at}
 use Rattle.text.specs.Text.{bytes}
 use Rattle.mnemonics.specs.declared.Pattern.{Pattern}
-use Rattle.mnemonics.specs.Mnemonics.{Row, rows, noRow, rowAt}
+use Rattle.mnemonics.specs.Mnemonics.{Row, rows}
+use Rattle.mnemonics.specs.RowAt.{noRow, rowAt}
 
 -- a row as one number: four octal digits each
 abbrev pub packed : Row → ℕ

@@ -1,1 +1,2 @@
 pub mod Mnemonics
+pub mod RowAt

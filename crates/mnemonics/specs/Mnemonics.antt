@@ -6,7 +6,7 @@ use mathlib.Core.Bool.{Bool, true, false, not, _&&_, _||_}
 use mathlib.Core.List.{List, [], _∷_, _++_}
 use lib.Bits.{bitAnd}
 use lib.Dec.{eqb, ltb}
-use lib.ListN.{getD, drop}
+use lib.ListN.{drop}
 use Rattle.words.specs.Words.{bit, bits, weight, pick}
 use Rattle.text.specs.Text.{bytes, octal}
 use Rattle.mnemonics.specs.declared.Pattern.{Pattern}
@@ -132,14 +132,15 @@ rows =
     ∷ row "IT1  " 0o0005 0o0005 slaves
     ∷ []
 
--- the row at a place; past the table's end one that stands in no kind of word
-abbrev pub noRow : Row
-noRow = row "     " 0 0 0
+-- TESTS OVER ALL ROWS: each row passes a test with each row behind it
 
-abbrev pub rowAt : ℕ → Row
-rowAt i = getD rows i noRow
+unfoldable pub eachBehind : (Row → Row → Bool) → Row → List Row → Bool
+eachBehind test r [] = true
+eachBehind test r (q ∷ qs) = test r q && eachBehind test r qs
 
--- NO TWO ROWS ALIKE: one test over all rows
+unfoldable pub eachPair : (Row → Row → Bool) → List Row → Bool
+eachPair test [] = true
+eachPair test (r ∷ rs) = eachBehind test r rs && eachPair test rs
 
 unfoldable pub same : List ℕ → List ℕ → Bool
 same [] [] = true
@@ -147,45 +148,29 @@ same [] (b ∷ bs) = false
 same (a ∷ more) [] = false
 same (a ∷ more) (b ∷ bs) = eqb a b && same more bs
 
--- one name; or one value, and a kind of word that both stand in
-unfoldable pub alike : Row → Row → Bool
-alike r q =
-    same (r .name) (q .name)
-    || (eqb (r .pattern .value) (q .pattern .value) && not (eqb (bitAnd (r .pattern .kinds) (q .pattern .kinds)) 0))
+-- a kind of word that both stand in
+abbrev pub meet : Row → Row → Bool
+meet r q = not (eqb (bitAnd (r .pattern .kinds) (q .pattern .kinds)) 0)
 
-unfoldable pub unlike : Row → List Row → Bool
-unlike r [] = true
-unlike r (q ∷ qs) = not (alike r q) && unlike r qs
-
-unfoldable pub distinct : List Row → Bool
-distinct [] = true
-distinct (r ∷ rs) = unlike r rs && distinct rs
+-- no two rows are alike: not one name, and not one value in one kind of word
+unfoldable pub unlike : Row → Row → Bool
+unlike r q = not (same (r .name) (q .name)) && not (eqb (r .pattern .value) (q .pattern .value) && meet r q)
 
 abbrev pub Distinct : Type 0
-Distinct = distinct rows ≡ true
-
--- MODIFIERS BY FALLING BIT: one more test over all rows but the 11 base names
+Distinct = eachPair unlike rows ≡ true
 
 -- some word has both: a kind in common, and no bit that both look at and want otherwise
-unfoldable pub together : Pattern → Pattern → Bool
-together p q =
-    let looked = bitAnd (p .mask) (q .mask) in
-    not (eqb (bitAnd (p .kinds) (q .kinds)) 0) && eqb (bitAnd (p .value) looked) (bitAnd (q .value) looked)
+unfoldable pub together : Row → Row → Bool
+together r q =
+    let looked = bitAnd (r .pattern .mask) (q .pattern .mask) in
+    meet r q && eqb (bitAnd (r .pattern .value) looked) (bitAnd (q .pattern .value) looked)
 
--- then the value without its op code falls from the one that comes first to the other
-unfoldable pub before : Pattern → Pattern → Bool
-before p q = not (together p q) || ltb (q .value % 512) (p .value % 512)
-
-unfoldable pub beforeAll : Row → List Row → Bool
-beforeAll r [] = true
-beforeAll r (q ∷ qs) = before (r .pattern) (q .pattern) && beforeAll r qs
-
-unfoldable pub falling : List Row → Bool
-falling [] = true
-falling (r ∷ rs) = beforeAll r rs && falling rs
+-- modifiers by falling bit: of two that some word has, the value without its op code falls from the first to the other
+unfoldable pub falls : Row → Row → Bool
+falls r q = not (together r q) || ltb (q .pattern .value % 512) (r .pattern .value % 512)
 
 abbrev pub Falling : Type 0
-Falling = falling (drop 11 rows) ≡ true
+Falling = eachPair falls (drop 11 rows) ≡ true
 
 -- WHAT STANDS ON THE LINE OF A CONTROL WORD
 

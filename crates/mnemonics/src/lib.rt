@@ -3,7 +3,8 @@ ghost use mathlib.Core.Path.{_≡_};
 ghost use Prim.Native.Nat.{_+_, _<_};
 ghost use mathlib.Core.List.{[], _∷_};
 ghost use Rattle.text.specs.Text.{filled, puts};
-ghost use Rattle.mnemonics.specs.Mnemonics.{rowAt, kind, applies, letters, name, names, uncovered, rest, restField, mnemonics, Distinct, Falling};
+ghost use Rattle.mnemonics.specs.Mnemonics.{kind, applies, letters, name, names, uncovered, rest, restField, mnemonics, Distinct, Falling};
+ghost use Rattle.mnemonics.specs.RowAt.{rowAt};
 
 // How many rows the table has.
 const ROWS: usize = 55;
@@ -72,10 +73,10 @@ const NAMES: [u8; 275] =
     *b"JUMP PJMP POP  SK1  SK2  SK3  SK4  SG0  SG1  SG2  SG3  SC1  SC2  SC4  SC8  LPOF LPON INT  STOP CLDF POINTINCR VEC  VECONSVEC CHAR GRAPHCSB  CCB  EDS  PNM  PNLS PNI  PEDS INV  CLAT COAT SKIP SNSZ SPB1 SPB2 SLPSICLPSISCUP SCDN INTUPINTDNBKON BKOF SU0  LP0  IT0  SU1  LP1  IT1  ";
 
 // What a row says of a word's bits.
-pub struct Pattern {
-    pub value: u16,
-    pub mask: u16,
-    pub kinds: u16,
+struct Pattern {
+    value: u16,
+    mask: u16,
+    kinds: u16,
 }
 
 fn row_at(i: usize) -> Pattern

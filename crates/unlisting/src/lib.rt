@@ -18,15 +18,15 @@ pub enum Reading {
 }
 
 // What a text begins with: the line of a word, with its length, or no line in form.
-pub enum Found {
+enum Found {
     Line(u16, usize),
     Nothing,
 }
 
 // How many lines were read, and how many bytes they have.
-pub struct Lines {
-    pub count: u16,
-    pub length: usize,
+struct Lines {
+    count: u16,
+    length: usize,
 }
 
 // The numbers of an answer.

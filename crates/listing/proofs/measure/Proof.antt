@@ -5,7 +5,7 @@ use native.Mathlib.Omega.{arith}
 use lib.Seq.{slice}
 use borrow.Author.Needs.{needs}
 use Rattle.listed_lines.proofs.Line.{length-line}
-use Rattle.listing.specs.Listing.{measured}
+use Rattle.listing.specs.Measuring.{measured}
 use Rattle.listing.proofs.Going.{also, also-nothing, measured-next, measured-last}
 use Rattle.listing.proofs.measure.Statement.{statement}
 use Rattle.listing.proofs.measure.Tie as tie

@@ -6,7 +6,8 @@ use lib.ListN.{length, drop}
 use borrow.Author.Needs.{needs}
 use Rattle.words.proofs.Tables.{joined}
 use Rattle.text.specs.Text.{bytes, filled, puts}
-use Rattle.mnemonics.specs.Mnemonics.{rows, rowAt, letters}
+use Rattle.mnemonics.specs.Mnemonics.{rows, letters}
+use Rattle.mnemonics.specs.RowAt.{rowAt}
 use Rattle.mnemonics.proofs.Table.{name-length, letter-at}
 use Rattle.mnemonics.proofs.Going.{letters-next, letters-last}
 use Rattle.mnemonics.proofs.put_letters.Statement.{statement}

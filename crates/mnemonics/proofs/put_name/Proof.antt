@@ -5,7 +5,8 @@ use borrow.Author.Needs.{needs}
 use Rattle.words.specs.Words.{pick}
 use Rattle.text.specs.Text.{puts}
 use Rattle.text.proofs.Puts.{behind}
-use Rattle.mnemonics.specs.Mnemonics.{name, letters, rowAt}
+use Rattle.mnemonics.specs.Mnemonics.{name, letters}
+use Rattle.mnemonics.specs.RowAt.{rowAt}
 use Rattle.mnemonics.proofs.put_name.Statement.{statement}
 use Rattle.mnemonics.proofs.put_name.Tie as tie
 

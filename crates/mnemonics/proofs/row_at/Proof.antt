@@ -1,7 +1,8 @@
 -- `mnemonics::row_at` meets its promise: the constant is the row of the definition as one number, taken apart. Assumes nothing.
 use lib.ListN.{List·getD-map}
 use borrow.Author.Needs.{needs}
-use Rattle.mnemonics.specs.Mnemonics.{rows, noRow}
+use Rattle.mnemonics.specs.Mnemonics.{rows}
+use Rattle.mnemonics.specs.RowAt.{noRow}
 use Rattle.mnemonics.proofs.Table.{packed, unpacked}
 use Rattle.mnemonics.proofs.row_at.Statement.{statement}
 use Rattle.mnemonics.proofs.row_at.Tie as tie

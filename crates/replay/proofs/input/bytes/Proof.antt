@@ -1,5 +1,4 @@
 -- `replay::input::bytes` is safe and ends: the measure is what is left of the longest text, and nothing has to hold from byte to byte. Assumes nothing.
-use borrow.Author.Needs.{needs}
 use Prim.Native.Nat.{_-_}
 use native.Mathlib.Omega.{arith}
 use borrow.Author.Tests.{ltb-true}

@@ -1,5 +1,4 @@
 -- `replay::lent::clear` is safe and ends: the measure is what is left of the points, and nothing has to hold from one to the next. Assumes nothing.
-use borrow.Author.Needs.{needs}
 use Prim.Native.Nat.{_-_}
 use native.Mathlib.Omega.{arith}
 use borrow.Author.Tests.{ltb-true}

@@ -13,7 +13,7 @@ use Rattle.words.proofs.Laws.{pick-case}
 use Rattle.registers.specs.declared.Registers.{Registers}
 use Rattle.registers.specs.Registers.{inRange}
 use Rattle.loan.specs.declared.Loan.{Loan}
-use Rattle.loan.specs.Loan.{fairLoan, all}
+use Rattle.loan.specs.Loan.{fairRange, fairLoan, all}
 use Rattle.loan.proofs.Touches.{fair}
 use Rattle.touches.specs.Touches.{Turn, Fails, Rests, Does, store}
 use Rattle.beam.specs.DataWords.{points}
@@ -39,7 +39,7 @@ unfolding call pick
 accepted k l r m ps s b f g = rw (s, b, f, g)
 
 all-fair : fairLoan all ≡ true
-unfolding fairLoan
+unfolding fairLoan fairRange
 all-fair = refl
 
 module _ (l : Loan) (m n ps qs : List ℕ) (h : Agree l m n) where

@@ -1,63 +1,41 @@
--- The code's constants are the rows of the definition: one test over all rows shows that each fits its numbers, and the laws of tables do the rest. Assumes
--- nothing.
+-- The code's constants are the rows of the definition, by the laws of tables. Assumes nothing.
 use Prim.Native.Nat.{ℕ, _+_, _*_, _/_, _%_, _<_}
 use mathlib.Core.Path.{_≡_, refl}
-use mathlib.Core.Bool.{Bool, true, _&&_}
+use mathlib.Core.Bool.{Bool, true}
+use mathlib.Core.List.{map}
 use native.Mathlib.Omega.{arith}
-use lib.Dec.{ltb, eqb}
+use lib.Dec.{eqb}
 use lib.ListN.{length, getD}
-use borrow.Author.Tests.{ltb-true, eqb-true}
-use Rattle.words.proofs.Laws.{both}
-use Rattle.words.proofs.Tables.{every, every-at, joined, joined-at}
+use borrow.Author.Tests.{eqb-true}
+use Rattle.words.proofs.Tables.{values, row-at, every, every-at, joined, joined-at}
 use Rattle.text.specs.Text.{bytes}
 use Rattle.mnemonics.specs.declared.Pattern.{Pattern}
 use Rattle.mnemonics.specs.Mnemonics.{Row, rows}
 use Rattle.mnemonics.specs.RowAt.{noRow, rowAt}
 
 -- a row as one number: four octal digits each
-abbrev pub packed : Row → ℕ
+abbrev packed : Row → ℕ
 packed r = r .pattern .value * 16777216 + r .pattern .mask * 4096 + r .pattern .kinds
 
--- and what a row has to be for that
-unfoldable pub fits : Row → Bool
-fits r = ltb (r .pattern .value) 4096 && ltb (r .pattern .mask) 4096 && ltb (r .pattern .kinds) 4096 && eqb (length (r .name)) 5
+-- and what the code reads off it
+abbrev unpacked : ℕ → Pattern
+unpacked n = record { value = n / 16777216 % 4096; mask = n / 4096 % 4096; kinds = n % 4096 }
 
-pub rows-fit : every fits rows ≡ true
-unfolding fits every rows bytes
-rows-fit = refl
+pub pattern-at : (i : ℕ) → i < 55 → unpacked (getD (map packed rows) i 0) ≡ rowAt i .pattern
+unfolding rows values bytes
+pattern-at i h = row-at (λ (k : ℕ). rowAt k .pattern) unpacked 55 (map packed rows) 0 refl i h
 
-all-fit : (i : ℕ) → fits (rowAt i) ≡ true
-unfolding fits bytes
-all-fit i = every-at fits rows noRow rows-fit refl i
+-- every name has five bytes
+unfoldable pub five : Row → Bool
+five r = eqb (length (r .name)) 5
 
-pub unpacked : (i : ℕ) {n : ℕ} → n ≡ packed (rowAt i) →
-    _≡_ {A = Pattern} (record { value = n / 16777216 % 4096; mask = n / 4096 % 4096; kinds = n % 4096 }) (rowAt i .pattern)
-unfolding fits
-unpacked i e =
-    let r = rowAt i in
-    let value = ltb (r .pattern .value) 4096 in
-    let mask = ltb (r .pattern .mask) 4096 in
-    let kinds = ltb (r .pattern .kinds) 4096 in
-    let h = both (value && mask && kinds) (eqb (length (r .name)) 5) (all-fit i) in
-    let t = both (value && mask) kinds (h .0) in
-    let s = both value mask (t .0) in
-    let v : r .pattern .value < 4096 = ltb-true _ _ (s .0) in
-    let m : r .pattern .mask < 4096 = ltb-true _ _ (s .1) in
-    let k : r .pattern .kinds < 4096 = ltb-true _ _ (t .1) in
-    let ev : packed r / 16777216 % 4096 ≡ r .pattern .value = omega arith in
-    let em : packed r / 4096 % 4096 ≡ r .pattern .mask = omega arith in
-    let ek : packed r % 4096 ≡ r .pattern .kinds = omega arith in
-    rw (e, ev, em, ek)
-
--- the name of a row that fits has five bytes
-pub five : (r : Row) → fits r ≡ true → length (r .name) ≡ 5
-unfolding fits
-five r h =
-    let p = r .pattern in
-    eqb-true _ _ (both (ltb (p .value) 4096 && ltb (p .mask) 4096 && ltb (p .kinds) 4096) (eqb (length (r .name)) 5) h .1)
+pub all-five : every five rows ≡ true
+unfolding five every rows bytes
+all-five = refl
 
 pub name-length : (i : ℕ) → length (rowAt i .name) ≡ 5
-name-length i = five (rowAt i) (all-fit i)
+unfolding five bytes
+name-length i = eqb-true _ _ (every-at five rows noRow all-five refl i)
 
 pub rows-length : length rows ≡ 55
 unfolding rows

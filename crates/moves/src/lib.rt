@@ -1,6 +1,7 @@
 // Move beats: what a line or a byte does next, and the move made.
 ghost use mathlib.Core.Path.{_≡_};
-ghost use Rattle.moves.specs.DataWords.{lineNext, lineMove, byteNext, byteMove, nextMove, displaced};
+ghost use Prim.Native.Nat.{_%_};
+ghost use Rattle.moves.specs.DataWords.{lineNext, lineMove, byteNext, leftward, rightward, upward, downward, byteMove, nextMove, displaced};
 use beam::Outcome;
 use registers::Base;
 use registers::ByteMotion;
@@ -83,25 +84,63 @@ fn byte_next(t: ByteMotion, escape: bool) -> Motion
     }
 }
 
+// Which ways a direction goes.
+struct Direction {
+    right: bool,
+    up: bool,
+    left: bool,
+    down: bool,
+}
+
+// A bit for each way that a direction can go.
+const RIGHT: u8 = 1;
+
+const UP: u8 = 2;
+
+const LEFT: u8 = 4;
+
+const DOWN: u8 = 8;
+
+// The directions 0 to 7 of an increment byte, counterclockwise from right (01, Increment; manual 2.2.2).
+const DIRECTIONS: [u8; 8] = [
+    RIGHT, // 0 →
+    RIGHT | UP, // 1 ↗
+    UP, // 2 ↑
+    LEFT | UP, // 3 ↖
+    LEFT, // 4 ←
+    LEFT | DOWN, // 5 ↙
+    DOWN, // 6 ↓
+    RIGHT | DOWN, // 7 ↘
+];
+
+// The direction of a byte: the row that its last three bits tell.
+fn directed(byte: u16) -> Direction
+    ensures { λ r. ⌜ r ≡ record { right = rightward (byte % 8); up = upward (byte % 8); left = leftward (byte % 8); down = downward (byte % 8) } ⌝ }
+{
+    let row = DIRECTIONS[(byte % 8) as usize];
+    Direction {
+        right: row & RIGHT != 0,
+        up: row & UP != 0,
+        left: row & LEFT != 0,
+        down: row & DOWN != 0,
+    }
+}
+
 pub fn byte_move(t: ByteMotion, distance: u8) -> Move
     ensures { λ r. ⌜ r ≡ byteMove t distance ⌝ }
 {
     let byte = registers::byte_at(t.word, t.right);
-    let direction = byte % 8;
     let escape = registers::escapes(byte);
     let motion = byte_next(t, escape);
-    let left = (3 <= direction) & (direction <= 5);
-    let right = (direction == 0) | (direction == 1) | (direction == 7);
-    let up = (1 <= direction) & (direction <= 3);
-    let down = (5 <= direction) & (direction <= 7);
-    let travelx = words::pick_u8(left | right, distance, 0);
-    let travely = words::pick_u8(up | down, distance, 0);
+    let direction = directed(byte);
+    let travelx = words::pick_u8(direction.left | direction.right, distance, 0);
+    let travely = words::pick_u8(direction.up | direction.down, distance, 0);
     Move {
         motion,
         travelx,
         travely,
-        minusx: left,
-        minusy: down,
+        minusx: direction.left,
+        minusy: direction.down,
         asked: byte / 32 % 2 == 1,
         escape,
         continues: false,

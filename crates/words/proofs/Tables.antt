@@ -1,14 +1,31 @@
--- Tables: a test that every row passes is passed by the row at a place, and where rows of one width stand one behind the other, what stands at a place of one
--- of them. A table's rule is then one computed test. Assumes nothing.
+-- Tables: rows that are as defined, all together, are so each; a test that every row passes is passed by the row at a place; and where rows of one width stand
+-- one behind the other, what stands at a place of one of them. A table's rule is then one computed test. Assumes nothing.
 use Prim.Native.Nat.{ℕ, zero, suc, _+_, _*_, _<_}
-use mathlib.Core.Path.{_≡_, _∙_}
+use mathlib.Core.Path.{_≡_, ap, sym, _∙_}
 use mathlib.Core.Bool.{Bool, true, _&&_}
-use mathlib.Core.List.{List, [], _∷_, _++_}
-use native.Mathlib.Nat.{le-of-suc-le-suc, not-suc-le-zero}
+use mathlib.Core.List.{List, [], _∷_, _++_, map}
+use native.Mathlib.Nat.{add-zero, zero-add, add-suc, suc-add, le-of-suc-le-suc, not-suc-le-zero}
 use native.Mathlib.Omega.{arith}
-use lib.ListN.{length, getD, List·getD-append}
+use lib.ListN.{length, getD, List·getD-append, List·getD-map}
 use lib.Seq.{getD-append-add}
 use Rattle.words.proofs.Laws.{both}
+
+module _ {B : Type 0} (value : ℕ → B) where
+  -- the values of a definition at n places, from place i on
+  unfoldable pub values : ℕ → ℕ → List B
+  values i zero = []
+  values i (suc n) = value i ∷ values (suc i) n
+
+  values-at : (i n k : ℕ) (none : B) → k < n → getD (values i n) k none ≡ value (i + k)
+  unfolding values
+  values-at i zero k none h = absurd (not-suc-le-zero h)
+  values-at i (suc n) zero none h = ap value (sym (add-zero i))
+  values-at i (suc n) (suc k) none h = values-at (suc i) n k none (le-of-suc-le-suc h) ∙ ap value (suc-add i k ∙ sym (add-suc i k))
+
+  -- what is read off the n rows of a table is what the definition says, so it is at each place
+  pub row-at : {A : Type 0} (read : A → B) (n : ℕ) (rs : List A) (none : A) → map read rs ≡ values 0 n → (k : ℕ) → k < n → read (getD rs k none) ≡ value k
+  row-at read n rs none e k h =
+      sym (List·getD-map read rs k none) ∙ ap (λ (bs : List B). getD bs k (read none)) e ∙ values-at 0 n k (read none) h ∙ ap value (zero-add k)
 
 module _ {A : Type 0} where
   unfoldable pub every : (A → Bool) → List A → Bool

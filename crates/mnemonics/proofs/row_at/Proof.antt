@@ -1,9 +1,7 @@
 -- `mnemonics::row_at` meets its promise: the constant is the row of the definition as one number, taken apart. Assumes nothing.
-use lib.ListN.{List·getD-map}
 use borrow.Author.Needs.{needs}
 use Rattle.mnemonics.specs.Mnemonics.{rows}
-use Rattle.mnemonics.specs.RowAt.{noRow}
-use Rattle.mnemonics.proofs.Table.{packed, unpacked}
+use Rattle.mnemonics.proofs.Table.{pattern-at}
 use Rattle.mnemonics.proofs.row_at.Statement.{statement}
 use Rattle.mnemonics.proofs.row_at.Tie as tie
 
@@ -17,4 +15,4 @@ row-at-spec =
     (λ c. search needs)
     (λ c. search needs)
     (λ c. search needs)
-    (λ c. unpacked (c .args .i) (List·getD-map packed rows (c .args .i) noRow)))
+    (λ c. pattern-at (c .args .i) (c .pre)))

@@ -12,15 +12,11 @@ use lib.Seq.{drop-cons}
 use borrow.Author.Tests.{leb-true, ne-eqb}
 use mir.Val.{boolByte}
 use Rattle.words.specs.Words.{pick}
-use Rattle.words.proofs.Laws.{pick-case}
+use Rattle.words.proofs.Laws.{pick-case, both}
 use Rattle.registers.specs.Registers.{inRange}
 use Rattle.numbers.specs.Places.{ROW, KIND, LINE-ESCAPE, BYTES-MOVES-LEFT, flags, narrows, lineFlags, bytesFlags}
 use Rattle.numbers.specs.Numbers.{at, on, flag, narrow, tested, flagsFit, narrowFit, motionFits, fits, baseOf, motionOf, registersOf, zeros, motionRow, baseRow, rowOf, used, kept, Faithful}
 use Rattle.numbers.proofs.Back.{fitting, back, refused}
-
-both : (a b : Bool) → (a && b) ≡ true → (a ≡ true) × (b ≡ true)
-both true b h = (refl, h)
-both false b h = (h, cc)
 
 -- what holds at each of some places
 abbrev Each : (ℕ → Type 0) → List ℕ → Type 0

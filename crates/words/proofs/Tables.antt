@@ -1,4 +1,4 @@
--- Tables: rows that are as defined, all together, are so each; a test that every row passes is passed by the row at a place; and where rows of one width stand
+-- Tables: where all rows together are as defined, each is; a test that every row passes is passed by the row at a place; and where rows of one width stand
 -- one behind the other, what stands at a place of one of them. A table's rule is then one computed test. Assumes nothing.
 use Prim.Native.Nat.{ℕ, zero, suc, _+_, _*_, _<_}
 use mathlib.Core.Path.{_≡_, ap, sym, _∙_}
@@ -22,7 +22,7 @@ module _ {B : Type 0} (value : ℕ → B) where
   values-at i (suc n) zero none h = ap value (sym (add-zero i))
   values-at i (suc n) (suc k) none h = values-at (suc i) n k none (le-of-suc-le-suc h) ∙ ap value (suc-add i k ∙ sym (add-suc i k))
 
-  -- what is read off the n rows of a table is what the definition says, so it is at each place
+  -- where what is read off the n rows of a table is what the definition says at n places, it is so at each of them
   pub row-at : {A : Type 0} (read : A → B) (n : ℕ) (rs : List A) (none : A) → map read rs ≡ values 0 n → (k : ℕ) → k < n → read (getD rs k none) ≡ value k
   row-at read n rs none e k h =
       sym (List·getD-map read rs k none) ∙ ap (λ (bs : List B). getD bs k (read none)) e ∙ values-at 0 n k (read none) h ∙ ap value (zero-add k)

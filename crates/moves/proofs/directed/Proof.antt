@@ -17,14 +17,14 @@ use Rattle.moves.proofs.directed.Tie as tie
 defined : ℕ → Direction
 defined d = record { right = rightward d; up = upward d; left = leftward d; down = downward d }
 
--- its row, with a bit for each side
+-- its row, with a bit for each way that it goes
 written : ℕ → ℕ
 written d = pick (rightward d) 1 0 + pick (upward d) 2 0 + pick (leftward d) 4 0 + pick (downward d) 8 0
 
 -- and what the code reads off a row
 read : ℕ → Direction
 read row =
-    let on : ℕ → Bool = λ (side : ℕ). not (eqb (bitAnd row side) 0) in
+    let on : ℕ → Bool = λ (way : ℕ). not (eqb (bitAnd row way) 0) in
     record { right = on 1; up = on 2; left = on 4; down = on 8 }
 
 pub directed-spec : {M : Type 1} → statement M

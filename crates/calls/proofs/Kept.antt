@@ -26,7 +26,7 @@ module _ (l : Loan) where
   onward-good : (go : Go) → ((room : ℕ) (r : Registers) → Good r → (m : List ℕ) → Good (go room r m .registers)) →
       (room : ℕ) (r : Registers) → Good r → (m : List ℕ) (t : Turn) → FineTurn room t → Good (onward go room r m t .registers)
   onward-good go ih room r g m (Fails why) h = g
-  onward-good go ih room r g m (Rests resting) h = rested-good r resting g
+  onward-good go ih room r g m (Rests resting) h = rested-good r resting g h
   onward-good go ih room r g m (Does c) h = by (halted (c .stop))
     where
       by : (s : Halt) → Good (follow go room m c s .registers)

@@ -41,7 +41,7 @@ why-small Full h = omega arith
 
 rest-small : (resting : Resting) → Small (restEnding resting)
 unfolding restEnding endingNumbers
-rest-small External = omega arith
+rest-small (External word) = omega arith
 rest-small Unusable = omega arith
 
 abbrev SmallHalt : Halt → Type 0

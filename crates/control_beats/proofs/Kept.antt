@@ -1,4 +1,5 @@
--- The beat of a control word keeps registers in range, whatever words it fetches: the commands' own laws are control's and skips'. Assumes nothing.
+-- The beat of a control word keeps registers in range, whatever words it fetches, and so does the beginning of every command beat: the commands' own laws are
+-- control's and skips'. Assumes nothing.
 use Prim.Native.Nat.{ℕ}
 use mathlib.Core.Bool.{true, false}
 use lib.Dec.{eqb}
@@ -6,12 +7,16 @@ use Rattle.words.specs.Words.{bit, bits}
 use Rattle.words.proofs.Laws.{pick-case}
 use Rattle.registers.specs.declared.Base.{Base}
 use Rattle.registers.specs.Good.{GoodBase, Good}
+use Rattle.registers.proofs.Setting.{held-set}
 use Rattle.control.proofs.Kept.{parameter-good, mode-good, jump-good, push-good, pop-good}
 use Rattle.skips.proofs.Kept.{skipping-good, flag-skip-good, count-good, sync-good}
 use Rattle.button_skips.proofs.Kept.{button-skip-good, compare-good}
 use Rattle.touches.specs.declared.Act.{Act}
 use Rattle.touches.proofs.Kept.{GoodBeat}
-use Rattle.control_beats.specs.ControlWords.{pushAct, jumpBeat, popBeat, miscellaneous, controlBeat}
+use Rattle.control_beats.specs.ControlWords.{ready, pushAct, jumpBeat, popBeat, miscellaneous, controlBeat}
+
+pub ready-good : (b : Base) → GoodBase b → GoodBase (ready b)
+ready-good b g = held-set g tt
 
 module _ (b : Base) (w : ℕ) (g : GoodBase b) where
   jump-beat-good : GoodBeat (jumpBeat b w)

@@ -6,8 +6,9 @@ use lib.Dec.{eqb}
 use Rattle.words.specs.Words.{bit, bits, pick}
 use Rattle.addresses.specs.Addresses.{addressAfter, pointerAfter, pointerBefore, fieldZero}
 use Rattle.registers.specs.declared.Base.{Base}
+use Rattle.registers.specs.declared.Held.the-variants.{Empty}
 use Rattle.registers.specs.declared.Motion.the-variants.{Nothing}
-use Rattle.registers.specs.With.{withPen, withHold}
+use Rattle.registers.specs.With.{withPen, withHold, withHeld}
 use Rattle.control.specs.ControlWords.{parameter, mode, jump, push, pushedFirst, pushedSecond, pop}
 use Rattle.skips.specs.ControlWords.{flagSkip, count, sync, skipping}
 use Rattle.button_skips.specs.ControlWords.{buttonSkip, compare}
@@ -19,9 +20,9 @@ use Rattle.touches.specs.declared.Act.{Act}
 use Rattle.touches.specs.declared.Stores.the-variants.{Two}
 use Rattle.touches.specs.Touches.{Beat, fetch, act, whole}
 
--- a command beat, of a control word or a data word, first ends pen hold if it is on (pen enable on, hold off)
-abbrev pub unheld : Base → Base
-unheld b = withHold (withPen b (b .pen || b .hold)) false
+-- a command beat, of a control word or a data word, first ends pen hold if it is on (pen enable on, hold off); the held word is used up (02, No. 4)
+abbrev pub ready : Base → Base
+ready b = withHeld (withHold (withPen b (b .pen || b .hold)) false) Empty
 
 -- a control word that stores nothing: registers, no motion, no point
 abbrev pub done : Base → Stop → Outcome

@@ -4,12 +4,13 @@ ghost use Rattle.beam.specs.declared.Stop.the-variants.{None, Internal};
 ghost use Rattle.words.specs.Words.{pick};
 ghost use Rattle.touches.specs.Touches.{walk};
 ghost use Rattle.touches.specs.Said.{said};
-ghost use Rattle.control_beats.specs.ControlWords.{unheld, done, pushAct, jumpBeat, popBeat, miscellaneous, controlBeat};
+ghost use Rattle.control_beats.specs.ControlWords.{ready, done, pushAct, jumpBeat, popBeat, miscellaneous, controlBeat};
 use beam::Lit;
 use beam::Outcome;
 use beam::Stop;
 use loan::Loan;
 use registers::Base;
+use registers::Held;
 use registers::Motion;
 use registers::Registers;
 use touches::Act;
@@ -17,13 +18,14 @@ use touches::Got;
 use touches::Stores;
 use touches::Turn;
 
-// The end of pen hold, with which every command beat begins.
-pub fn unheld(b: Base) -> Base
-    ensures { λ r. ⌜ r ≡ unheld b ⌝ }
+// How every command beat begins: pen hold ends, and the held word is used up.
+pub fn ready(b: Base) -> Base
+    ensures { λ r. ⌜ r ≡ ready b ⌝ }
 {
     Base {
         pen: b.pen | b.hold,
         hold: false,
+        held: Held::Empty,
         ..b
     }
 }

@@ -8,7 +8,10 @@ use native.Mathlib.Omega.{arith}
 use lib.Dec.{eqb}
 use Rattle.words.specs.Words.{bit, bits}
 use Rattle.words.proofs.Laws.{pick-case}
+use Rattle.addresses.specs.declared.DisplayAddress.{DisplayAddress}
 use Rattle.registers.specs.declared.Base.{Base}
+use Rattle.registers.specs.declared.Held.{Held}
+use Rattle.registers.specs.declared.Held.the-variants.{Empty, Holds}
 use Rattle.registers.specs.declared.Motion.the-variants.{Nothing}
 use Rattle.beam.specs.declared.Lit.the-variants.{Dark}
 use Rattle.loan.specs.declared.Loan.{Loan}
@@ -18,11 +21,11 @@ use Rattle.touches.specs.declared.Got.{Got}
 use Rattle.touches.specs.declared.Got.the-variants.{Word, Not}
 use Rattle.touches.specs.declared.Stores.{Stores}
 use Rattle.touches.specs.declared.Stores.the-variants.{Nowhere, Two}
-use Rattle.touches.specs.Touches.{Beat, fetch, act, rest, Turn, Fails, Rests, Does, fetched, onGot, allowed, walk, store}
+use Rattle.touches.specs.Touches.{Beat, fetch, act, rest, takingBy, Turn, Fails, Rests, Does, fetched, onGot, allowed, walk, store}
 use Rattle.endings.specs.declared.Halt.{Halt}
 use Rattle.endings.specs.declared.Halt.the-variants.{Goes, Ends}
 use Rattle.endings.specs.Endings.{halted}
-use Rattle.control_beats.specs.ControlWords.{unheld, pushAct, jumpBeat, popBeat, controlBeat}
+use Rattle.control_beats.specs.ControlWords.{ready, pushAct, jumpBeat, popBeat, controlBeat}
 use Rattle.control_sequence.specs.Sequence.{nextWord, ObeyedLeft, Go, follow, onTurn, obey}
 
 -- WHAT A CONTROL WORD DOES
@@ -34,6 +37,10 @@ abbrev BareBeat : Beat → Type 0
 BareBeat (fetch a k) = (w : ℕ) → BareBeat (k w)
 BareBeat (act c) = BareAct c
 BareBeat (rest resting) = ⊥
+
+taking-bare : (a : DisplayAddress) (k : ℕ → Beat) (h : Held) → ((w : ℕ) → BareBeat (k w)) → BareBeat (takingBy a k h)
+taking-bare a k Empty i = i
+taking-bare a k (Holds word) i = i word
 
 abbrev pub Bare : Turn → Type 0
 Bare (Fails why) = Unit {0}
@@ -78,7 +85,7 @@ module _ (l : Loan) (m : List ℕ) where
   beat-bare (rest resting) h = absurd h
 
   pub next-bare : (b : Base) → Bare (walk l m (nextWord b))
-  next-bare b = beat-bare (nextWord b) (control-bare (unheld b))
+  next-bare b = beat-bare (nextWord b) (taking-bare (b .address) _ (b .held) (control-bare (ready b)))
 
 -- WHERE A SEQUENCE GOES ON
 

@@ -12,19 +12,20 @@ use Rattle.registers.specs.declared.Base.{Base}
 use Rattle.loan.specs.declared.Loan.{Loan}
 use Rattle.touches.specs.declared.Act.{Act}
 use Rattle.touches.specs.declared.Got.{Got}
-use Rattle.touches.specs.declared.Got.the-variants.{Word}
+use Rattle.touches.specs.declared.Got.the-variants.{Word, Not}
 use Rattle.touches.specs.declared.Resting.{Resting}
 use Rattle.touches.specs.declared.Why.{Why}
 use Rattle.touches.specs.declared.Turn.{Turn as Told}
-use Rattle.touches.specs.Touches.{Turn, Fails, Rests, Does, fetched, walk, store}
+use Rattle.touches.specs.Touches.{Turn, Fails, Rests, Does, walk, store}
+use Rattle.touches.specs.Taken.{taken}
 use Rattle.touches.specs.Said.{said}
-use Rattle.touches.proofs.Walk.{walk-word, length-store}
+use Rattle.touches.proofs.Walk.{walk-taken, walk-not-taken, length-store}
 use Rattle.endings.specs.declared.Ending.{Ending}
 use Rattle.endings.specs.declared.Ending.the-variants.{Failed}
 use Rattle.endings.specs.declared.Halt.{Halt}
 use Rattle.endings.specs.declared.Halt.the-variants.{Goes, Ends}
 use Rattle.endings.specs.Endings.{halted}
-use Rattle.control_beats.specs.ControlWords.{unheld, controlBeat}
+use Rattle.control_beats.specs.ControlWords.{ready, controlBeat}
 use Rattle.control_sequence.specs.Sequence.{nextWord, ObeyedLeft, stays, follow, onTurn, obey}
 
 -- the loop's test
@@ -66,11 +67,15 @@ unfolding obey pick
 shut zero l b m o = refl
 shut (suc j) l b m o = rw (none (ltb 0 (suc j)) (b .datastate) (b .request) o (lt-ltb 0 (suc j) (omega arith)))
 
--- the word at the display address was got, and its beat made with hold ended
-pub worded : (l : Loan) (m : List ℕ) (b : Base) (t : Told) {g : Got} {w : ℕ} {c : Base} → g ≡ fetched l m (b .address) → g ≡ Word w → c ≡ unheld b →
+-- the first word was got, and its beat made from registers that are ready
+pub worded : (l : Loan) (m : List ℕ) (b : Base) (t : Told) {g : Got} {w : ℕ} {c : Base} → g ≡ taken l m b → g ≡ Word w → c ≡ ready b →
     said t ≡ walk l m (controlBeat c w) → walk l m (nextWord b) ≡ said t
 worded l m b t {w = w} p q e h =
-    walk-word l m (b .address) (controlBeat (unheld b)) p q ∙ ap (λ (c : Base). walk l m (controlBeat c w)) (sym e) ∙ sym h
+    walk-taken l m (b .address) (controlBeat (ready b)) (b .held) p q ∙ ap (λ (c : Base). walk l m (controlBeat c w)) (sym e) ∙ sym h
+
+-- the first word was not got
+pub unworded : (l : Loan) (m : List ℕ) (b : Base) {g : Got} {why : Why} → g ≡ taken l m b → g ≡ Not why → walk l m (nextWord b) ≡ Fails why
+unworded l m b p q = walk-not-taken l m (b .address) (controlBeat (ready b)) (b .held) p q
 
 module _ {k : ℕ} {l : Loan} {b₀ : Base} {m₀ : List ℕ} {n : ℕ} {b : Base} {m : List ℕ} where
   pub ends : Far k l b₀ m₀ n b m (obey n l b m) → onward n b ≡ false → obey k l b₀ m₀ ≡ stays n b m Goes

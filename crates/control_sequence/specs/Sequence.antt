@@ -7,17 +7,17 @@ use Rattle.words.specs.Words.{pick}
 use Rattle.registers.specs.declared.Base.{Base}
 use Rattle.loan.specs.declared.Loan.{Loan}
 use Rattle.touches.specs.declared.Act.{Act}
-use Rattle.touches.specs.Touches.{Beat, fetch, Turn, Fails, Rests, Does, walk, store}
+use Rattle.touches.specs.Touches.{Beat, taking, Turn, Fails, Rests, Does, walk, store}
 use Rattle.endings.specs.declared.Ending.the-variants.{Failed}
 use Rattle.endings.specs.declared.Halt.{Halt}
 use Rattle.endings.specs.declared.Halt.the-variants.{Goes, Ends}
 use Rattle.endings.specs.Endings.{halted}
-use Rattle.control_beats.specs.ControlWords.{unheld, controlBeat}
+use Rattle.control_beats.specs.ControlWords.{ready, controlBeat}
 use Rattle.control_sequence.specs.declared.Obeyed.{Obeyed}
 
--- the control word at the display address, hold ended
+-- the beat of the next control word
 abbrev pub nextWord : Base → Beat
-nextWord b = fetch (b .address) (controlBeat (unheld b))
+nextWord b = taking b (controlBeat (ready b))
 
 -- what a sequence leaves, with the memory
 pub record ObeyedLeft : Type 0 where

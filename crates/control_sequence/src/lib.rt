@@ -24,9 +24,9 @@ pub fn obey(start: Base, l: Loan, memory: &mut [u16], limit: u32) -> Obeyed
     let mut base = start;
     let mut left = limit;
     while (0 < left) & !base.datastate & !base.request {
-        match touches::fetched(l, &memory[..], base.address) {
+        match touches::taken(l, &memory[..], base) {
             Got::Word(word) => match control_beats::control_beat(
-                control_beats::unheld(base),
+                control_beats::ready(base),
                 word,
                 l,
                 &memory[..],

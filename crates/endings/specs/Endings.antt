@@ -1,10 +1,11 @@
--- Section 'Refused calls and run endings' of 01: what a stop, a rest or a failure makes of a run, and the endings' numbers, with No. 1 of 02.
+-- Section 'Refused calls and run endings' of 01: what a stop, a rest or a failure makes of a run, and the endings' numbers, with Nos. 1 and 4 of 02.
 -- Assumes nothing.
 use Prim.Native.Nat.{ℕ}
 use mathlib.Core.Bool.{Bool, true, false, _||_}
 use lib.Dec.{eqb}
 use Rattle.registers.specs.declared.Registers.{Registers}
-use Rattle.registers.specs.With.{withRunning, withRequest, withExternal}
+use Rattle.registers.specs.declared.Held.the-variants.{Holds}
+use Rattle.registers.specs.With.{withRunning, withRequest, withExternal, withHeld}
 use Rattle.beam.specs.declared.Stop.{Stop}
 use Rattle.beam.specs.declared.Stop.the-variants.{None, Internal, Edge}
 use Rattle.touches.specs.declared.Resting.{Resting}
@@ -17,14 +18,14 @@ use Rattle.endings.specs.declared.EndingNumbers.{EndingNumbers}
 use Rattle.endings.specs.declared.Halt.{Halt}
 use Rattle.endings.specs.declared.Halt.the-variants.{Goes, Ends}
 
--- a stop request: request off, external flag on, running off, 13; an unusable mode: running off, 15, no flag
+-- a stop request: request off, external flag on, running off, 13, and the next command's first word is held (02, No. 4); an unusable mode: running off, 15, no flag
 unfoldable pub rested : Registers → Resting → Registers
-rested r External =
-    record { base = withRunning (withExternal (withRequest (r .base) false) true) false; motion = r .motion }
+rested r (External word) =
+    record { base = withHeld (withRunning (withExternal (withRequest (r .base) false) true) false) (Holds word); motion = r .motion }
 rested r Unusable = record { base = withRunning (r .base) false; motion = r .motion }
 
 unfoldable pub restEnding : Resting → Ending
-restEnding External = ExternalStop
+restEnding (External word) = ExternalStop
 restEnding Unusable = UnusableMode
 
 -- a beat that stops the display ends the run with 12 or 14

@@ -3,6 +3,7 @@ ghost use mathlib.Core.Path.{_≡_};
 ghost use Rattle.endings.specs.Endings.{rested, restEnding, halted, numbers, whyNumbers, endingNumbers, atFence};
 use beam::Stop;
 use registers::Base;
+use registers::Held;
 use registers::Registers;
 use touches::Resting;
 use touches::Why;
@@ -37,11 +38,12 @@ pub fn rested(r: Registers, resting: Resting) -> Registers
     let b = r.base;
     let motion = r.motion;
     match resting {
-        Resting::External => {
+        Resting::External(word) => {
             let base = Base {
                 request: false,
                 external: true,
                 running: false,
+                held: Held::Holds(word),
                 ..b
             };
             Registers { base, motion }
@@ -60,7 +62,7 @@ pub fn rest_ending(resting: Resting) -> Ending
     ensures { λ r. ⌜ r ≡ restEnding resting ⌝ }
 {
     match resting {
-        Resting::External => Ending::ExternalStop,
+        Resting::External(_) => Ending::ExternalStop,
         Resting::Unusable => Ending::UnusableMode,
     }
 }

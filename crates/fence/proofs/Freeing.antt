@@ -53,7 +53,7 @@ halted-free Edge ending e = let q : EdgeStop ≡ ending = cc in rw (← q)
 
 rested-free : (resting : Resting) → fenced (restEnding resting) ≡ false
 unfolding restEnding fenced endingNumbers
-rested-free External = refl
+rested-free (External word) = refl
 rested-free Unusable = refl
 
 -- nothing is both

@@ -18,7 +18,7 @@ use Rattle.registers.specs.declared.Registers.{Registers}
 use Rattle.registers.specs.Registers.{inRange}
 use Rattle.registers.specs.Good.{Good}
 use Rattle.registers.proofs.InRange.{good, formed}
-use Rattle.registers.proofs.Setting.{address-set, pointer-set, mode-set, buttons-set, conditions-set}
+use Rattle.registers.proofs.Setting.{address-set, pointer-set, mode-set, buttons-set, conditions-set, held-set}
 use Rattle.operations.specs.HostOperations.{started, pointed, conditioned, resume, cleared}
 use Rattle.inputs.specs.HostOperations.{pressed, groupCleared}
 use Rattle.host.specs.declared.Operated.{Operated}
@@ -26,7 +26,7 @@ use Rattle.host.specs.HostOperations.{known, limit, withMotion, register
 
 module _ (r : Registers) (g : Good r) where
   started-good : (operand : ℕ) → Good (withMotion (started (r .base) (addressAt operand)) Nothing)
-  started-good operand = record { base = mode-set (address-set (g .base) (omega arith)) (omega arith); motion = tt }
+  started-good operand = record { base = held-set (mode-set (address-set (g .base) (omega arith)) (omega arith)) tt; motion = tt }
 
   pointed-good : (operand : ℕ) → Good (withMotion (pointed (r .base) (pointerAt operand)) (r .motion))
   pointed-good operand = record { base = pointer-set (g .base) (omega arith); motion = g .motion }
@@ -44,7 +44,7 @@ module _ (r : Registers) (g : Good r) where
 
   cleared-good : Good (withMotion (cleared (r .base)) Nothing)
   unfolding cleared addressIn
-  cleared-good = record { base = mode-set (address-set (g .base) (omega arith)) (omega arith); motion = tt }
+  cleared-good = record { base = held-set (mode-set (address-set (g .base) (omega arith)) (omega arith)) tt; motion = tt }
 
   pressed-good : (operand : ℕ) → Good (withMotion (pressed (r .base) operand) (r .motion))
   unfolding pressed

@@ -65,7 +65,7 @@ fn write_names(names: &[u8], row: &[u16], first: usize) {
 pub(crate) fn write_registers(r: Registers) {
     let row = numbers::row_of(r);
     write_names(
-        b"display address#pushdown pointer#x=y=data state=mode=scale=intensity=pen enable=pen hold=pen sense=blink=idle=buttons#hit flag of bank 1=hit flag of bank 2=internal stop flag=external stop flag=vertical edge flag=horizontal edge flag=pen flag=manual interrupt flag=initial conditions#running=stop request=kind of motion=",
+        b"display address#pushdown pointer#x=y=data state=mode=scale=intensity=pen enable=pen hold=pen sense=blink=idle=buttons#hit flag of bank 1=hit flag of bank 2=internal stop flag=external stop flag=vertical edge flag=horizontal edge flag=pen flag=manual interrupt flag=initial conditions#running=stop request=word held=held word#kind of motion=",
         &row,
         numbers::ADDRESS,
     );

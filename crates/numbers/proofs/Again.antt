@@ -1,27 +1,28 @@
 -- A row whose registers are in range comes back from them: it fits, so each flag is the 0 or 1 that it is written as, what has 8 bits is all there, and the kind
 -- says which places count. Assumes nothing.
 use Prim.Native.Nat.{ℕ, zero, suc, _+_, _-_, _%_, _≤_}
-use mathlib.Core.Path.{_≡_, refl, ap, _∙_}
-use mathlib.Core.Bool.{Bool, true, false, _&&_}
+use mathlib.Core.Path.{_≡_, refl, sym, ap, _∙_}
+use mathlib.Core.Bool.{Bool, true, false, _&&_, _||_}
 use mathlib.Core.List.{List, [], _∷_, _++_}
 use native.Mathlib.Nat.{mod-eq-of-lt}
 use native.Mathlib.Omega.{arith}
 use lib.Dec.{leb, eqb}
 use lib.ListN.{length, take, drop}
 use lib.Seq.{drop-cons}
-use borrow.Author.Tests.{leb-true, ne-eqb}
+use borrow.Author.Tests.{leb-true, eqb-true, ne-eqb}
 use mir.Val.{boolByte}
 use Rattle.words.specs.Words.{pick}
 use Rattle.words.proofs.Laws.{pick-case, both}
+use Rattle.registers.specs.declared.Held.the-variants.{Empty, Holds}
 use Rattle.registers.specs.Registers.{inRange}
-use Rattle.numbers.specs.Places.{ROW, KIND, LINE-ESCAPE, BYTES-MOVES-LEFT, flags, narrows, lineFlags, bytesFlags}
-use Rattle.numbers.specs.Numbers.{at, on, flag, narrow, tested, flagsFit, narrowFit, motionFits, fits, baseOf, motionOf, registersOf, zeros, motionRow, baseRow, rowOf, used, kept, Faithful}
+use Rattle.numbers.specs.Places.{ROW, HELD, HELD-WORD, KIND, LINE-ESCAPE, BYTES-MOVES-LEFT, flags, narrows, lineFlags, bytesFlags}
+use Rattle.numbers.specs.Numbers.{at, on, flag, narrow, tested, flagsFit, narrowFit, heldFits, motionFits, fits, heldOf, holds, heldWord, baseOf, motionOf, registersOf, zeros, motionRow, baseRow, rowOf, used, kept, Faithful}
 use Rattle.numbers.proofs.Back.{fitting, back, refused}
 
 -- what holds at each of some places
 abbrev Each : (ℕ → Type 0) → List ℕ → Type 0
-Each Holds [] = Unit {0}
-Each Holds (place ∷ places) = Holds place × Each Holds places
+Each Says [] = Unit {0}
+Each Says (place ∷ places) = Says place × Each Says places
 
 -- where all tests came out true, what one says holds at each place
 each : (test : ℕ → Bool) (Says : ℕ → Type 0) → ((place : ℕ) → test place ≡ true → Says place) →
@@ -40,6 +41,13 @@ flag-kept (suc (suc n)) h = absurd (omega (arith, leb-true (suc (suc n)) 1 h))
 
 narrow-kept : (n : ℕ) → leb n 255 ≡ true → n % 256 ≡ n
 narrow-kept n h = mod-eq-of-lt (omega (arith, leb-true n 255 h))
+
+-- a held word is written as the two numbers that it was read from
+held-kept : (t : Bool) (word : ℕ) → (t || eqb word 0) ≡ true →
+    (holds (pick t (Holds word) Empty) ≡ t) × (heldWord (pick t (Holds word) Empty) ≡ word)
+unfolding pick
+held-kept true word h = (refl, refl)
+held-kept false word h = (refl, sym (eqb-true word 0 h))
 
 -- a kind of motion that there is not
 other : (n kind : ℕ) → kind ≤ 2 → eqb (suc (suc (suc n))) kind ≡ false
@@ -76,8 +84,13 @@ module _ (row : List ℕ) where
   narrows-kept : (places : List ℕ) → tested (narrow row) true places ≡ true → Each (λ place. at row place % 256 ≡ at row place) places
   narrows-kept places h = each (narrow row) _ (λ place. narrow-kept (at row place)) places true h .1
 
-  base-kept : flagsFit row ≡ true → narrowFit row ≡ true → baseRow (baseOf row) ≡ from KIND 0
-  base-kept f n = let fs = flags-kept flags f in let ns = narrows-kept narrows n in cc
+  base-kept : flagsFit row ≡ true → narrowFit row ≡ true → heldFits row ≡ true → baseRow (baseOf row) ≡ from KIND 0
+  unfolding heldOf
+  base-kept f n h =
+      let fs = flags-kept flags f in
+      let ns = narrows-kept narrows n in
+      let hs = held-kept (on row HELD) (at row HELD-WORD) h in
+      rw (hs .0, hs .1) (cc)
 
   motion-kept : (kind : ℕ) → at row KIND ≡ kind → motionFits row ≡ true → motionRow (motionOf row) ≡ from (used kind - KIND) KIND ++ zeros (used kind)
   unfolding motionFits motionOf motionRow used pick
@@ -94,10 +107,11 @@ module _ (row : List ℕ) where
     where
       by : (t : Bool) → fits row ≡ t → rowOf (registersOf row) ≡ kept row
       by true f =
-          let two = both (flagsFit row && narrowFit row) (motionFits row) f in
+          let three = both (flagsFit row && narrowFit row && heldFits row) (motionFits row) f in
+          let two = both (flagsFit row && narrowFit row) (heldFits row) (three .0) in
           let one = both (flagsFit row) (narrowFit row) (two .0) in
           ap rowOf (fitting row f)
-          ∙ same (base-kept (one .0) (one .1)) (motion-kept (at row KIND) refl (two .1))
+          ∙ same (base-kept (one .0) (one .1) (two .1)) (motion-kept (at row KIND) refl (three .1))
           ∙ from-joined (at row KIND)
           ∙ same (from-take (used (at row KIND)) 0 (omega (arith, used-few (at row KIND)))) refl
       by false f = cc (refused row f)

@@ -2,7 +2,7 @@
 -- not fit have a mode out of range. Assumes nothing.
 use Prim.Native.Nat.{ℕ, _%_, _<_}
 use mathlib.Core.Path.{_≡_, refl, _∙_}
-use mathlib.Core.Bool.{Bool, true, false}
+use mathlib.Core.Bool.{Bool, true, false, _||_}
 use mathlib.Core.List.{List, _++_}
 use native.Mathlib.Nat.{mod-eq-of-lt}
 use native.Mathlib.Omega.{arith}
@@ -11,13 +11,15 @@ use borrow.Author.Tests.{le-leb}
 use mir.Val.{boolByte}
 use Rattle.words.specs.Words.{pick}
 use Rattle.registers.specs.declared.Base.{Base}
+use Rattle.registers.specs.declared.Held.{Held}
+use Rattle.registers.specs.declared.Held.the-variants.{Empty, Holds}
 use Rattle.registers.specs.declared.Motion.{Motion}
 use Rattle.registers.specs.declared.Motion.the-variants.{Nothing, Line, Bytes}
 use Rattle.registers.specs.declared.Registers.{Registers}
-use Rattle.registers.specs.Registers.{inRange, numbersInRange, motionInRange}
+use Rattle.registers.specs.Registers.{inRange, heldInRange, numbersInRange, motionInRange}
 use Rattle.registers.specs.Good.{GoodBase, Good}
 use Rattle.registers.proofs.InRange.{good}
-use Rattle.numbers.specs.Numbers.{fits, narrowFit, flagsFit, motionFits, baseOf, motionOf, fitted, registersOf, motionRow, baseRow, rowOf}
+use Rattle.numbers.specs.Numbers.{fits, narrowFit, flagsFit, heldFits, motionFits, heldOf, holds, heldWord, baseOf, motionOf, fitted, registersOf, motionRow, baseRow, rowOf}
 
 flag-back : (b : Bool) → eqb (boolByte b) 1 ≡ b
 flag-back true = refl
@@ -26,6 +28,16 @@ flag-back false = refl
 flag-small : (b : Bool) → leb (boolByte b) 1 ≡ true
 flag-small true = refl
 flag-small false = refl
+
+-- the held word reads back from its two numbers, which fit
+held-back : (h : Held) → pick (holds h) (Holds (heldWord h)) Empty ≡ h
+unfolding pick
+held-back Empty = refl
+held-back (Holds word) = refl
+
+held-fit : (h : Held) → (holds h || eqb (heldWord h) 0) ≡ true
+held-fit Empty = refl
+held-fit (Holds word) = refl
 
 -- what has 8 bits loses none
 module _ (n : ℕ) (h : n < 256) where
@@ -37,6 +49,9 @@ module _ (n : ℕ) (h : n < 256) where
 
 flags-fit : (b : Base) (m : List ℕ) → flagsFit (baseRow b ++ m) ≡ true
 flags-fit b m = simp flag-small
+
+held-fits : (b : Base) (m : List ℕ) → heldFits (baseRow b ++ m) ≡ true
+held-fits b m = simp flag-back (held-fit (b .held))
 
 motion-fits : (b : Base) (m : Motion) → motionFits (baseRow b ++ motionRow m) ≡ true
 unfolding motionFits motionRow pick
@@ -55,11 +70,14 @@ module _ (b : Base) (m : List ℕ) (g : GoodBase b) where
   narrow-fit = simp (narrow-small (b .mode) (omega (arith, g .mode)), narrow-small (b .scale) (omega (arith, g .scale)), narrow-small (b .intensity) (omega (arith, g .intensity)))
 
   base-back : baseOf (baseRow b ++ m) ≡ b
-  base-back = simp (flag-back, narrow-back (b .mode) (omega (arith, g .mode)), narrow-back (b .scale) (omega (arith, g .scale)), narrow-back (b .intensity) (omega (arith, g .intensity)))
+  unfolding heldOf
+  base-back = simp (flag-back, held-back, narrow-back (b .mode) (omega (arith, g .mode)), narrow-back (b .scale) (omega (arith, g .scale)), narrow-back (b .intensity) (omega (arith, g .intensity)))
 
 row-fits : (r : Registers) → Good r → fits (rowOf r) ≡ true
 unfolding fits rowOf
-row-fits r g = rw (flags-fit (r .base) (motionRow (r .motion)), narrow-fit (r .base) (motionRow (r .motion)) (g .base), motion-fits (r .base) (r .motion))
+row-fits r g =
+    let m = motionRow (r .motion) in
+    rw (flags-fit (r .base) m, narrow-fit (r .base) m (g .base), held-fits (r .base) m, motion-fits (r .base) (r .motion))
 
 pub fitting : (row : List ℕ) → fits row ≡ true → registersOf row ≡ fitted row
 unfolding registersOf pick
@@ -75,5 +93,5 @@ back r h =
     fitting (rowOf r) (row-fits r g) ∙ same (base-back (r .base) (motionRow (r .motion)) (g .base)) (motion-back (r .base) (r .motion))
 
 pub refused : (row : List ℕ) → fits row ≡ false → inRange (registersOf row) ≡ false
-unfolding registersOf pick inRange numbersInRange motionInRange
+unfolding registersOf pick inRange heldInRange numbersInRange motionInRange
 refused row e = rw e

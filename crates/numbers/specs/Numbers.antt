@@ -1,7 +1,7 @@
 -- Registers as a row of numbers, whose places are named in Places.antt. Which rows fit, the registers of a row, the row of registers, and what makes the row a
 -- faithful form. Assumes nothing.
 use Prim.Native.Nat.{ℕ, _+_, _-_, _%_}
-use mathlib.Core.Bool.{Bool, true, false, _&&_}
+use mathlib.Core.Bool.{Bool, true, false, _&&_, _||_}
 use mathlib.Core.List.{List, [], _∷_, _++_}
 use mathlib.Core.Path.{_≡_}
 use lib.Dec.{leb, eqb}
@@ -10,6 +10,8 @@ use mir.Val.{boolByte}
 use Rattle.words.specs.Words.{pick}
 use Rattle.addresses.specs.Addresses.{address, pointer}
 use Rattle.registers.specs.declared.Base.{Base}
+use Rattle.registers.specs.declared.Held.{Held}
+use Rattle.registers.specs.declared.Held.the-variants.{Empty, Holds}
 use Rattle.registers.specs.declared.LineMotion.{LineMotion}
 use Rattle.registers.specs.declared.ByteMotion.{ByteMotion}
 use Rattle.registers.specs.declared.Motion.{Motion}
@@ -17,7 +19,7 @@ use Rattle.registers.specs.declared.Motion.the-variants.{Nothing, Line, Bytes}
 use Rattle.registers.specs.declared.Registers.{Registers}
 use Rattle.registers.specs.Registers.{inRange, freshBase}
 use Rattle.registers.specs.With.{withMode}
-use Rattle.numbers.specs.Places.{ROW, ADDRESS, POINTER, X, Y, STATE, MODE, SCALE, INTENSITY, PEN-ENABLE, PEN-HOLD, PEN-SENSE, BLINK, IDLE, BUTTONS, HIT-1, HIT-2, INTERNAL-STOP-FLAG, EXTERNAL-STOP-FLAG, VERTICAL-EDGE-FLAG, HORIZONTAL-EDGE-FLAG, PEN-FLAG, MANUAL-INTERRUPT-FLAG, CONDITIONS, RUNNING, STOP-REQUEST}
+use Rattle.numbers.specs.Places.{ROW, ADDRESS, POINTER, X, Y, STATE, MODE, SCALE, INTENSITY, PEN-ENABLE, PEN-HOLD, PEN-SENSE, BLINK, IDLE, BUTTONS, HIT-1, HIT-2, INTERNAL-STOP-FLAG, EXTERNAL-STOP-FLAG, VERTICAL-EDGE-FLAG, HORIZONTAL-EDGE-FLAG, PEN-FLAG, MANUAL-INTERRUPT-FLAG, CONDITIONS, RUNNING, STOP-REQUEST, HELD, HELD-WORD}
 use Rattle.numbers.specs.Places.{flags, narrows, lineFlags, bytesFlags}
 use Rattle.numbers.specs.Places.{KIND, LINE-MINUS-Y, LINE-MINUS-X, LINE-MAGNITUDE-Y, LINE-MAGNITUDE-X, LINE-MOVES, LINE-DONE, LINE-LIT, LINE-ESCAPE, BYTES-WORD, BYTES-SIDE, BYTES-MOVES-LEFT}
 
@@ -52,6 +54,10 @@ flagsFit row = tested (flag row) true flags
 abbrev pub narrowFit : List ℕ → Bool
 narrowFit row = tested (narrow row) true narrows
 
+-- where no word is held there is none to tell: the word is 0
+abbrev pub heldFits : List ℕ → Bool
+heldFits row = on row HELD || eqb (at row HELD-WORD) 0
+
 -- the two signs of a line, lit and escape
 abbrev pub lineFits : List ℕ → Bool
 lineFits row = tested (flag row) true lineFlags
@@ -67,9 +73,13 @@ motionFits row =
 
 -- the whole row
 unfoldable pub fits : List ℕ → Bool
-fits row = flagsFit row && narrowFit row && motionFits row
+fits row = flagsFit row && narrowFit row && heldFits row && motionFits row
 
 -- THE REGISTERS OF A ROW
+
+-- the held word
+unfoldable pub heldOf : List ℕ → Held
+heldOf row = pick (on row HELD) (Holds (at row HELD-WORD)) Empty
 
 -- mode, scale and intensity by their low 8 bits, which is all that a row that fits has there
 abbrev pub baseOf : List ℕ → Base
@@ -100,6 +110,7 @@ baseOf row =
       external = on row EXTERNAL-STOP-FLAG;
       penflag = on row PEN-FLAG;
       manual = on row MANUAL-INTERRUPT-FLAG;
+      held = heldOf row;
     }
 
 -- a line's numbers: signs and magnitudes, y first; moves and done; lit and escape
@@ -158,6 +169,16 @@ motionRow (Line l) =
     ∷ zeros (LINE-ESCAPE + 1)
 motionRow (Bytes t) = 2 ∷ t .word ∷ boolByte (t .right) ∷ t .moves ∷ zeros (BYTES-MOVES-LEFT + 1)
 
+-- whether a word is held
+abbrev pub holds : Held → Bool
+holds Empty = false
+holds (Holds word) = true
+
+-- the held word, 0 where none is held
+abbrev pub heldWord : Held → ℕ
+heldWord Empty = 0
+heldWord (Holds word) = word
+
 -- the numbers of the other registers
 abbrev pub baseRow : Base → List ℕ
 baseRow b =
@@ -186,6 +207,8 @@ baseRow b =
     ∷ b .conditions
     ∷ boolByte (b .running)
     ∷ boolByte (b .request)
+    ∷ boolByte (holds (b .held))
+    ∷ heldWord (b .held)
     ∷ []
 
 -- the whole row

@@ -5,7 +5,7 @@ use mathlib.Core.List.{List, [], _∷_}
 
 -- how many places there are
 abbrev pub ROW : ℕ
-ROW = 34
+ROW = 36
 
 -- THE REGISTERS
 
@@ -84,9 +84,16 @@ RUNNING = 23
 abbrev pub STOP-REQUEST : ℕ
 STOP-REQUEST = 24
 
+-- whether a word is held, and the held word
+abbrev pub HELD : ℕ
+HELD = 25
+
+abbrev pub HELD-WORD : ℕ
+HELD-WORD = 26
+
 -- the kind of motion: 0 nothing, 1 a line, 2 bytes
 abbrev pub KIND : ℕ
-KIND = 25
+KIND = 27
 
 -- THE NUMBERS OF A LINE
 
@@ -146,6 +153,7 @@ flags =
     ∷ MANUAL-INTERRUPT-FLAG
     ∷ RUNNING
     ∷ STOP-REQUEST
+    ∷ HELD
     ∷ []
 
 abbrev pub narrows : List ℕ

@@ -4,18 +4,20 @@ ghost use mathlib.Core.Path.{_≡_};
 ghost use mathlib.Core.List.{_++_};
 ghost use Rattle.numbers.specs.Places.{KIND};
 ghost use Rattle.addresses.specs.Addresses.{address, pointer};
-ghost use Rattle.registers.specs.With.{withAddress, withPointer};
-ghost use Rattle.numbers.specs.Numbers.{flagsFit, narrowFit, lineFits, motionFits, fits, baseOf, lineOf, bytesOf, motionOf, unfit, registersOf, zeros, baseRow, rowOf, used, Faithful};
+ghost use Rattle.registers.specs.With.{withAddress, withPointer, withHeld};
+ghost use Rattle.registers.specs.declared.Held.the-variants.{Empty};
+ghost use Rattle.numbers.specs.Numbers.{flagsFit, narrowFit, heldFits, lineFits, motionFits, fits, heldOf, baseOf, lineOf, bytesOf, motionOf, unfit, registersOf, zeros, holds, heldWord, baseRow, rowOf, used, Faithful};
 use addresses::DisplayAddress;
 use addresses::PushdownPointer;
 use registers::Base;
 use registers::ByteMotion;
+use registers::Held;
 use registers::LineMotion;
 use registers::Motion;
 use registers::Registers;
 
 // How many numbers a row has.
-pub const ROW: usize = 34;
+pub const ROW: usize = 36;
 
 // The place of each, from 0. First the registers.
 pub const ADDRESS: usize = 0;
@@ -68,8 +70,13 @@ pub const RUNNING: usize = 23;
 
 pub const STOP_REQUEST: usize = 24;
 
+// Whether a word is held, and the held word.
+pub const HELD: usize = 25;
+
+pub const HELD_WORD: usize = 26;
+
 // The kind of motion: 0 nothing, 1 a line, 2 bytes.
-pub const KIND: usize = 25;
+pub const KIND: usize = 27;
 
 // The numbers of a line.
 pub const LINE_MINUS_Y: usize = KIND + 1;
@@ -115,6 +122,14 @@ fn flags_fit(row: [u16; ROW]) -> bool
         & (row[MANUAL_INTERRUPT_FLAG] <= 1)
         & (row[RUNNING] <= 1)
         & (row[STOP_REQUEST] <= 1)
+        & (row[HELD] <= 1)
+}
+
+// Whether there is no word where none is held.
+fn held_fits(row: [u16; ROW]) -> bool
+    ensures { λ r. ⌜ r ≡ heldFits row ⌝ }
+{
+    (row[HELD] == 1) | (row[HELD_WORD] == 0)
 }
 
 // Whether the registers of 8 bits have no more.
@@ -150,16 +165,28 @@ fn motion_fits(row: [u16; ROW]) -> bool
 pub fn fits(row: [u16; ROW]) -> bool
     ensures { λ r. ⌜ r ≡ fits row ⌝ }
 {
-    flags_fit(row) & narrow_fit(row) & motion_fits(row)
+    flags_fit(row) & narrow_fit(row) & held_fits(row) & motion_fits(row)
 }
 
-// The registers other than the motion, with their two addresses.
-fn base_with(row: [u16; ROW], address: DisplayAddress, pointer: PushdownPointer) -> Base
-    ensures { λ r. ⌜ r ≡ withPointer (withAddress (baseOf row) address) pointer ⌝ }
+// The held word of a row.
+fn held_of(row: [u16; ROW]) -> Held
+    ensures { λ r. ⌜ r ≡ heldOf row ⌝ }
+{
+    if row[HELD] == 1 {
+        Held::Holds(row[HELD_WORD])
+    } else {
+        Held::Empty
+    }
+}
+
+// The registers other than the motion, with their two addresses and the held word.
+fn base_with(row: [u16; ROW], address: DisplayAddress, pointer: PushdownPointer, held: Held) -> Base
+    ensures { λ r. ⌜ r ≡ withHeld (withPointer (withAddress (baseOf row) address) pointer) held ⌝ }
 {
     Base {
         address,
         pointer,
+        held,
         x: row[X],
         y: row[Y],
         datastate: row[STATE] == 1,
@@ -193,6 +220,7 @@ fn base_of(row: [u16; ROW]) -> Base
         row,
         DisplayAddress::given(row[ADDRESS]),
         PushdownPointer::given(row[POINTER]),
+        held_of(row),
     )
 }
 
@@ -256,10 +284,30 @@ pub fn registers_of(row: [u16; ROW]) -> Registers
     }
 }
 
-// The row of the registers but for the motion, and of no motion, with the numbers of the display address and the pushdown pointer. These are read before: read
-// here, they made the compiler keep the flags packed through the whole run.
+// Whether a word is held.
+fn holds(h: Held) -> bool
+    ensures { λ r. ⌜ r ≡ holds h ⌝ }
+{
+    match h {
+        Held::Empty => false,
+        Held::Holds(_) => true,
+    }
+}
+
+// The held word, 0 where none is held.
+fn held_word(h: Held) -> u16
+    ensures { λ r. ⌜ r ≡ heldWord h ⌝ }
+{
+    match h {
+        Held::Empty => 0,
+        Held::Holds(word) => word,
+    }
+}
+
+// The row of the registers but for the held word and the motion, and of none of these, with the numbers of the display address and the pushdown pointer. These
+// are read before: read here, they made the compiler keep the flags packed through the whole run.
 fn base_row(b: Base, display: u16, pushdown: u16) -> [u16; ROW]
-    ensures { λ r. ⌜ r ≡ baseRow (withPointer (withAddress b (address display)) (pointer pushdown)) ++ zeros KIND ⌝ }
+    ensures { λ r. ⌜ r ≡ baseRow (withHeld (withPointer (withAddress b (address display)) (pointer pushdown)) Empty) ++ zeros KIND ⌝ }
 {
     let mut row = [0u16; ROW];
     row[ADDRESS] = display;
@@ -296,7 +344,10 @@ pub fn row_of(r: Registers) -> [u16; ROW]
 {
     let b = r.base;
     let motion = r.motion;
+    let held = b.held;
     let mut row = base_row(b, b.address.number(), b.pointer.number());
+    row[HELD] = holds(held) as u16;
+    row[HELD_WORD] = held_word(held);
     match motion {
         Motion::Nothing => {}
         Motion::Line(l) => {

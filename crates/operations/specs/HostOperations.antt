@@ -7,15 +7,17 @@ use Rattle.addresses.specs.declared.DisplayAddress.{DisplayAddress}
 use Rattle.addresses.specs.declared.PushdownPointer.{PushdownPointer}
 use Rattle.addresses.specs.Addresses.{breakField, addressIn}
 use Rattle.registers.specs.declared.Base.{Base}
-use Rattle.registers.specs.With.{withConditions, withAddress, withPointer, withMode, withDatastate, withRunning, withHorizontal, withVertical, withPen, withHold, withRequest, withInternal, withExternal, withPenflag}
+use Rattle.registers.specs.declared.Held.the-variants.{Empty}
+use Rattle.registers.specs.With.{withConditions, withAddress, withPointer, withMode, withDatastate, withRunning, withHorizontal, withVertical, withPen, withHold, withRequest, withInternal, withExternal, withPenflag, withHeld}
 
 -- the flags that stop are internal stop, external stop, the two edges and the pen (manual 1.1.9, a to d)
 abbrev pub stopsOff : Base → Base
 stopsOff b = withInternal (withExternal (withVertical (withHorizontal (withPenflag b false) false) false) false) false
 
--- 1 start: sets the address to it; clears mode, the flags that stop, request, hold; control state, running
+-- 1 start: sets the address to it; clears mode, the flags that stop, request, hold; control state, running; "start and clear drop the held word" (02, No. 4)
 abbrev pub started : Base → DisplayAddress → Base
-started b a = withRunning (withDatastate (withHold (withRequest (stopsOff (withMode (withAddress b a) 0)) false) false) false) true
+started b a =
+    withHeld (withRunning (withDatastate (withHold (withRequest (stopsOff (withMode (withAddress b a) 0)) false) false) false) true) Empty
 
 -- 2 pointer
 abbrev pub pointed : Base → PushdownPointer → Base
@@ -35,11 +37,11 @@ resume b =
     let held = off && not (bit (b .conditions) 3) in
     pick (not (b .running)) (resumed b (b .pen && not off) (b .hold || held)) b
 
--- 5 clear: those flags, the low 12 address bits, mode, request, hold; control state, stopped
+-- 5 clear: those flags, the low 12 address bits, mode, request, hold, the held word; control state, stopped
 unfoldable pub cleared : Base → Base
 cleared b =
     let emptied = withMode (withAddress (stopsOff b) (addressIn (breakField (b .address)) 0)) 0 in
-    withRunning (withDatastate (withHold (withRequest emptied false) false) false) false
+    withHeld (withRunning (withDatastate (withHold (withRequest emptied false) false) false) false) Empty
 
 -- 6 stop request; none if stopped
 abbrev pub requested : Base → Base

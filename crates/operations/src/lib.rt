@@ -4,6 +4,7 @@ ghost use Rattle.operations.specs.HostOperations.{stopsOff, started, poi
 use addresses::DisplayAddress;
 use addresses::PushdownPointer;
 use registers::Base;
+use registers::Held;
 
 // The flags that stop the display off.
 fn stops_off(b: Base) -> Base
@@ -22,14 +23,17 @@ fn stops_off(b: Base) -> Base
 pub fn started(b: Base, address: DisplayAddress) -> Base
     ensures { λ r. ⌜ r ≡ started b address ⌝ }
 {
-    let mut next = stops_off(b);
-    next.address = address;
-    next.mode = 0;
-    next.request = false;
-    next.hold = false;
-    next.datastate = false;
-    next.running = true;
-    next
+    let off = stops_off(b);
+    Base {
+        address,
+        mode: 0,
+        request: false,
+        hold: false,
+        datastate: false,
+        running: true,
+        held: Held::Empty,
+        ..off
+    }
 }
 
 // 2: set the pushdown pointer.

@@ -8,18 +8,26 @@ use borrow.Author.Tests.{ltb-true, ltb-false, lt-ltb, leb-true, le-leb, eqb-true
 use Rattle.words.specs.Words.{pick}
 use Rattle.words.proofs.Laws.{both}
 use Rattle.registers.specs.declared.Base.{Base}
+use Rattle.registers.specs.declared.Held.{Held}
+use Rattle.registers.specs.declared.Held.the-variants.{Empty, Holds}
 use Rattle.registers.specs.declared.LineMotion.{LineMotion}
 use Rattle.registers.specs.declared.ByteMotion.{ByteMotion}
 use Rattle.registers.specs.declared.Motion.{Motion}
 use Rattle.registers.specs.declared.Motion.the-variants.{Nothing, Line, Bytes}
 use Rattle.registers.specs.declared.Registers.{Registers}
-use Rattle.registers.specs.Registers.{larger, numbersInRange, lineInRange, bytesInRange, motionInRange, inRange, fresh}
-use Rattle.registers.specs.Good.{GoodBase, GoodLine, GoodBytes, GoodMotion, Good}
+use Rattle.registers.specs.Registers.{larger, heldInRange, numbersInRange, lineInRange, bytesInRange, motionInRange, inRange, fresh}
+use Rattle.registers.specs.Good.{GoodHeld, GoodBase, GoodLine, GoodBytes, GoodMotion, Good}
+
+good-held : (h : Held) → heldInRange h ≡ true → GoodHeld h
+unfolding heldInRange
+good-held Empty q = tt
+good-held (Holds word) q = leb-true _ _ q
 
 good-base : (b : Base) → numbersInRange b ≡ true → GoodBase b
 unfolding numbersInRange
 good-base b h =
-    let h8 = both _ _ h in
+    let h9 = both _ _ h in
+    let h8 = both _ _ (h9 .0) in
     let h7 = both _ _ (h8 .0) in
     let h6 = both _ _ (h7 .0) in
     let h5 = both _ _ (h6 .0) in
@@ -37,6 +45,7 @@ good-base b h =
       intensity = ltb-true _ _ (h6 .1);
       buttons = ltb-true _ _ (h7 .1);
       conditions = ltb-true _ _ (h8 .1);
+      held = good-held (b .held) (h9 .1);
     }
 
 good-line : (l : LineMotion) → lineInRange l ≡ true → GoodLine l
@@ -86,6 +95,11 @@ good r h =
     let k = both _ _ h in
     record { base = good-base (r .base) (k .0); motion = good-motion (r .motion) (r .base .datastate) (r .base .mode) (k .1) }
 
+formed-held : (h : Held) → GoodHeld h → heldInRange h ≡ true
+unfolding heldInRange
+formed-held Empty g = refl
+formed-held (Holds word) g = le-leb _ _ g
+
 formed-base : (b : Base) → GoodBase b → numbersInRange b ≡ true
 unfolding numbersInRange
 formed-base b g =
@@ -99,6 +113,7 @@ formed-base b g =
       lt-ltb _ _ (g .intensity),
       lt-ltb _ _ (g .buttons),
       lt-ltb _ _ (g .conditions),
+      formed-held (b .held) (g .held),
     )
 
 formed-line : {l : LineMotion} → GoodLine l → lineInRange l ≡ true
@@ -128,7 +143,7 @@ formed r g = rw (formed-base (r .base) (g .base), formed-motion (r .motion) (r .
 
 -- the fresh registers are in range
 pub fresh-formed : inRange fresh ≡ true
-unfolding inRange numbersInRange motionInRange
+unfolding inRange heldInRange numbersInRange motionInRange
 fresh-formed = refl
 
 -- the bounds that a line's move needs

@@ -4,6 +4,8 @@ use Prim.Native.Nat.{ℕ, _<_, _≤_}
 use mathlib.Core.Bool.{Bool, true, false, _&&_}
 use mathlib.Core.Path.{_≡_}
 use Rattle.registers.specs.declared.Base.{Base}
+use Rattle.registers.specs.declared.Held.{Held}
+use Rattle.registers.specs.declared.Held.the-variants.{Empty, Holds}
 use Rattle.registers.specs.declared.LineMotion.{LineMotion}
 use Rattle.registers.specs.declared.ByteMotion.{ByteMotion}
 use Rattle.registers.specs.declared.Motion.{Motion}
@@ -11,8 +13,12 @@ use Rattle.registers.specs.declared.Motion.the-variants.{Nothing, Line, 
 use Rattle.registers.specs.declared.Registers.{Registers}
 use Rattle.registers.specs.Registers.{larger, byteAt, movesAsked, escapes}
 
--- over the numbers themselves, so that what changes none of them keeps the fact as it is
-pub record GoodNumbers (a p u v m s i k c : ℕ) : Type 0 where
+abbrev pub GoodHeld : Held → Type 0
+GoodHeld Empty = Unit {0}
+GoodHeld (Holds word) = word ≤ 4095
+
+-- over the numbers and the held word themselves, so that what changes none of them keeps the fact as it is
+pub record GoodNumbers (a p u v m s i k c : ℕ) (h : Held) : Type 0 where
   pub address : a < 32768
   pub pointer : p < 4096
   pub x : u < 8192
@@ -22,10 +28,11 @@ pub record GoodNumbers (a p u v m s i k c : ℕ) : Type 0 where
   pub intensity : i < 8
   pub buttons : k < 4096
   pub conditions : c < 4096
+  pub held : GoodHeld h
 
 abbrev pub GoodBase : Base → Type 0
 GoodBase b =
-    GoodNumbers (b .address .0) (b .pointer .0) (b .x) (b .y) (b .mode) (b .scale) (b .intensity) (b .buttons) (b .conditions)
+    GoodNumbers (b .address .0) (b .pointer .0) (b .x) (b .y) (b .mode) (b .scale) (b .intensity) (b .buttons) (b .conditions) (b .held)
 
 pub record GoodLine (l : LineMotion) : Type 0 where
   pub magx : l .magx < 1024

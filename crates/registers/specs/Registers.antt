@@ -7,6 +7,8 @@ use Rattle.addresses.specs.Addresses.{address, pointer}
 use Rattle.registers.specs.declared.Base.{Base}
 use Rattle.registers.specs.declared.LineMotion.{LineMotion}
 use Rattle.registers.specs.declared.ByteMotion.{ByteMotion}
+use Rattle.registers.specs.declared.Held.{Held}
+use Rattle.registers.specs.declared.Held.the-variants.{Empty, Holds}
 use Rattle.registers.specs.declared.Motion.{Motion}
 use Rattle.registers.specs.declared.Motion.the-variants.{Nothing, Line, Bytes}
 use Rattle.registers.specs.declared.Registers.{Registers}
@@ -27,7 +29,12 @@ movesAsked byte = pick (eqb (byte / 8 % 4) 0) 1 (byte / 8 % 4)
 unfoldable pub escapes : ℕ → Bool
 escapes byte = eqb (byte / 8 % 4) 0
 
--- a 15-bit display address, a 12-bit pushdown pointer, 13-bit x and y, mode 0 to 7, scale 0 to 3, intensity 0 to 7, 12 buttons, 12 condition bits
+-- "a held word above 4,095 is refusal 4" (02, No. 4)
+unfoldable pub heldInRange : Held → Bool
+heldInRange Empty = true
+heldInRange (Holds word) = leb word 4095
+
+-- a 15-bit display address, a 12-bit pushdown pointer, 13-bit x and y, mode 0 to 7, scale 0 to 3, intensity 0 to 7, 12 buttons, 12 condition bits, the held word
 unfoldable pub numbersInRange : Base → Bool
 numbersInRange b =
     ltb (b .address .0) 32768
@@ -39,6 +46,7 @@ numbersInRange b =
     && ltb (b .intensity) 8
     && ltb (b .buttons) 4096
     && ltb (b .conditions) 4096
+    && heldInRange (b .held)
 
 -- magnitudes up to 1,023, n = the larger, at least 1, done k below n
 unfoldable pub lineInRange : LineMotion → Bool
@@ -67,7 +75,7 @@ motionInRange (Bytes t) datastate mode = datastate && eqb mode 1 && bytesInRange
 unfoldable pub inRange : Registers → Bool
 inRange r = numbersInRange (r .base) && motionInRange (r .motion) (r .base .datastate) (r .base .mode)
 
--- fresh is all zero: control state, not running, no motion
+-- fresh is all zero: control state, not running, no word held, no motion
 abbrev pub freshBase : Base
 freshBase =
     record {
@@ -96,6 +104,7 @@ freshBase =
       external = false;
       penflag = false;
       manual = false;
+      held = Empty;
     }
 
 abbrev pub fresh : Registers

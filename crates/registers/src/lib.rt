@@ -1,6 +1,6 @@
 // The display's registers, the fresh ones, and the test that refusal 4 is.
 ghost use mathlib.Core.Path.{_≡_};
-ghost use Rattle.registers.specs.Registers.{larger, byteAt, movesAsked, escapes, numbersInRange, lineInRange, bytesInRange, motionInRange, inRange, fresh};
+ghost use Rattle.registers.specs.Registers.{larger, byteAt, movesAsked, escapes, heldInRange, numbersInRange, lineInRange, bytesInRange, motionInRange, inRange, fresh};
 use addresses::DisplayAddress;
 use addresses::PushdownPointer;
 
@@ -28,6 +28,12 @@ pub enum Motion {
     Nothing,
     Line(LineMotion),
     Bytes(ByteMotion),
+}
+
+// The word that an external stop holds for the next command beat.
+pub enum Held {
+    Empty,
+    Holds(u16),
 }
 
 // Every register but the motion. The wide fields first: a struct is laid out in this order.
@@ -65,6 +71,7 @@ pub struct Base {
     pub external: bool,
     pub penflag: bool,
     pub manual: bool,
+    pub held: Held,
 }
 
 pub struct Registers {
@@ -101,9 +108,19 @@ pub fn escapes(byte: u16) -> bool
     byte / 8 % 4 == 0
 }
 
+fn held_in_range(h: Held) -> bool
+    ensures { λ r. ⌜ r ≡ heldInRange h ⌝ }
+{
+    match h {
+        Held::Empty => true,
+        Held::Holds(word) => word <= 4095,
+    }
+}
+
 fn numbers_in_range(b: Base) -> bool
     ensures { λ r. ⌜ r ≡ numbersInRange b ⌝ }
 {
+    let held = b.held;
     (b.address.number() < 32768)
         & (b.pointer.number() < 4096)
         & (b.x < 8192)
@@ -113,6 +130,7 @@ fn numbers_in_range(b: Base) -> bool
         & (b.intensity < 8)
         & (b.buttons < 4096)
         & (b.conditions < 4096)
+        & held_in_range(held)
 }
 
 fn line_in_range(l: LineMotion) -> bool
@@ -152,7 +170,7 @@ pub fn in_range(r: Registers) -> bool
     numbers_in_range(b) & motion_in_range(m, b.datastate, b.mode)
 }
 
-// Fresh registers: all zero, control state, not running, no motion.
+// Fresh registers: all zero, control state, not running, no word held, no motion.
 pub fn fresh() -> Registers
     ensures { λ r. ⌜ r ≡ fresh ⌝ }
 {
@@ -182,6 +200,7 @@ pub fn fresh() -> Registers
         external: false,
         penflag: false,
         manual: false,
+        held: Held::Empty,
     };
     Registers {
         base,

@@ -5,12 +5,12 @@ use crate::input::Reader;
 use crate::output;
 use registers::Registers;
 
-type Row = [u16; numbers::ROW];
+pub(crate) type Row = [u16; numbers::ROW];
 
-// Registers, and the reader behind them: where it is not valid, they mean nothing.
+// A row of registers, and the reader behind it: where that is not valid, the row means nothing.
 pub(crate) struct Taken {
     pub reader: Reader,
-    pub registers: Registers,
+    pub row: Row,
 }
 
 // A number that fits 16 bits, as its field has it.
@@ -30,9 +30,11 @@ fn read_part(r: Reader, block: &mut Block, row: &mut Row, first: usize, end: usi
     q
 }
 
-// A row with a number that its field cannot hold is no case.
+// A row with a number that its field cannot hold is no case. Its field can hold a word where none is held: that is for the call to refuse.
 fn fitting(r: Reader, row: Row) -> Reader {
-    if numbers::fits(row) {
+    let mut fields = row;
+    fields[numbers::HELD_WORD] = 0;
+    if numbers::fits(fields) {
         r
     } else {
         input::failed(r)
@@ -47,13 +49,17 @@ pub(crate) fn read(r: Reader, block: &mut Block) -> Taken {
     let p = read_part(q, block, &mut row, numbers::KIND + 1, end);
     Taken {
         reader: fitting(p, row),
-        registers: numbers::registers_of(row),
+        row,
     }
 }
 
-// Writes registers, with a space before each number.
-pub(crate) fn write(r: Registers, out: &mut Block, place: usize) -> usize {
-    let row = numbers::row_of(r);
+// The row that a call leaves: where it was refused, the one that was given.
+pub(crate) fn left(given: Row, refused: bool, r: Registers) -> Row {
+    if refused { given } else { numbers::row_of(r) }
+}
+
+// Writes a row, with a space before each number.
+pub(crate) fn write(row: Row, out: &mut Block, place: usize) -> usize {
     let end = numbers::used(row[numbers::KIND]);
     output::numbers(&row[..end], out, place)
 }

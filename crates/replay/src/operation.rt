@@ -2,27 +2,28 @@
 use crate::Block;
 use crate::Step;
 use crate::fields;
+use crate::fields::Row;
 use crate::input;
 use crate::input::Reader;
 use crate::output;
 use host::Operated;
-use registers::Registers;
 
-// Writes the answer.
-fn write(operated: Operated, out: &mut Block, place: usize) -> usize {
+// Writes the answer to an operation on the registers of a row.
+fn write(operated: Operated, given: Row, out: &mut Block, place: usize) -> usize {
     let reply = operated.reply;
     let registers = operated.registers;
     let named = output::text(b"op", out, place);
     let told = host::numbered(reply);
     let ended = output::number(told.ending as u64, out, named);
     let replied = output::number(told.word as u64, out, ended);
-    let held = fields::write(registers, out, replied);
-    output::put(b'\n', out, held)
+    let row = fields::left(given, told.ending != 0, registers);
+    let rowed = fields::write(row, out, replied);
+    output::put(b'\n', out, rowed)
 }
 
-fn operate(registers: Registers, operation: u64, operand: u64) -> Operated {
+fn operate(row: Row, operation: u64, operand: u64) -> Operated {
     host::operate(
-        registers,
+        numbers::registers_of(row),
         (operation % 4294967296) as u32,
         (operand % 4294967296) as u32,
     )
@@ -34,10 +35,11 @@ pub(crate) fn answer(r: Reader, block: &mut Block, out: &mut Block, place: usize
     let operation = input::number(taken.reader, block, 4294967295);
     let operand = input::ended(input::number(operation, block, 4294967295));
     if operand.valid {
-        let operated = operate(taken.registers, operation.number, operand.number);
+        let row = taken.row;
+        let operated = operate(row, operation.number, operand.number);
         Step {
             reader: operand,
-            place: write(operated, out, place),
+            place: write(operated, row, out, place),
         }
     } else {
         Step {

@@ -6,20 +6,20 @@ use crate::Memory;
 use crate::Points;
 use crate::Step;
 use crate::fields;
+use crate::fields::Row;
 use crate::input;
 use crate::input::Reader;
 use crate::lent;
 use crate::output;
 use answers::Numbers;
 use loan::Loan;
-use registers::Registers;
 
 // The largest BUDGET, FLO, FHI, LLO, LHI and ROOM, as the types and the format give them.
 const LARGEST: [u64; 6] = [4294967295, 65535, 65535, 65535, 65535, 65536];
 
 // A case but for its memory: the call, and the length of the point list.
 struct Case {
-    registers: Registers,
+    row: Row,
     ranges: Loan,
     budget: u32,
     room: u64,
@@ -34,23 +34,28 @@ fn ranges(v: [u64; 6]) -> Loan {
     }
 }
 
-fn case_of(registers: Registers, v: [u64; 6]) -> Case {
+fn case_of(row: Row, v: [u64; 6]) -> Case {
     Case {
-        registers,
+        row,
         ranges: ranges(v),
         budget: (v[0] % 4294967296) as u32,
         room: v[5],
     }
 }
 
+// Whether a run was refused: no ending has a number as low as a refusal's.
+fn refused(told: Numbers) -> bool {
+    told.ending < 10
+}
+
 // Writes the answer but for the points and the words.
-fn write(registers: Registers, told: Numbers, out: &mut Block, place: usize) -> usize {
+fn write(row: Row, told: Numbers, out: &mut Block, place: usize) -> usize {
     let named = output::text(b"run", out, place);
     let first = output::number(told.ending as u64, out, named);
     let second = output::number(told.beats as u64, out, first);
     let third = output::number(told.points as u64, out, second);
     let fourth = output::number(told.address as u64, out, third);
-    fields::write(registers, out, fourth)
+    fields::write(row, out, fourth)
 }
 
 // Runs, and writes the answer.
@@ -62,14 +67,16 @@ fn play(
     out: &mut Block,
     place: usize,
 ) -> usize {
-    let registers = case.registers;
+    let given = case.row;
     let ranges = case.ranges;
+    let registers = numbers::registers_of(given);
     let ran = calls::call(registers, ranges, memory, points, case.budget);
     let answer = ran.answer;
-    let left = ran.registers;
+    let after = ran.registers;
     let told = calls::numbered(answer);
-    let held = write(left, told, out, place);
-    let lighted = lent::write_points(points, told.points, out, held);
+    let row = fields::left(given, refused(told), after);
+    let rowed = write(row, told, out, place);
+    let lighted = lent::write_points(points, told.points, out, rowed);
     let changed = lent::write_memory(memory, before, out, lighted);
     output::put(b'\n', out, changed)
 }
@@ -115,7 +122,8 @@ pub(crate) fn answer(
     let reader = input::ended(lent::read(numbered, block, memory, before));
     if reader.valid {
         lent::clear(points, v[5]);
-        let case = case_of(taken.registers, v);
+        let row = taken.row;
+        let case = case_of(row, v);
         Step {
             reader,
             place: lend(case, reader.number, memory, before, points, out, place),

@@ -135,7 +135,7 @@ module _ {l : Loan} {m₀ ps₀ : List ℕ} {k : ℕ} {r₀ : Registers} {m ps :
           room = w .far .room;
           drawn = w .far .drawn;
           size = w .far .size;
-          good = rested-good r resting (w .far .good);
+          good = rested-good r resting (w .far .good) (rw q at (turn-fine l (length ps₀ - n) r (w .far .good) m));
           spent = w .far .spent;
           whole = w .far .whole ∙ ap (after (w .far .lit) b) (one ∙ rw q);
         }

@@ -28,8 +28,8 @@ use Rattle.move_sequence.specs.PlainMoves.{plain, SequenceLeft, onMove, sequenc
 use Rattle.move_sequence.proofs.Plain.{plainly}
 use Rattle.loan.specs.declared.Loan.{Loan}
 use Rattle.touches.specs.declared.Act.{Act}
-use Rattle.touches.specs.Touches.{fetch, Turn, Fails, Rests, Does, whole, allowed, walk, store}
-use Rattle.control_beats.specs.ControlWords.{unheld}
+use Rattle.touches.specs.Touches.{taking, Turn, Fails, Rests, Does, whole, allowed, walk, store}
+use Rattle.control_beats.specs.ControlWords.{ready}
 use Rattle.turns.specs.OneTurn.{commandBy, commandBeat, unusable, roomFor, turn}
 use Rattle.turns.proofs.Walk.{walk-idle}
 use Rattle.turns.specs.Drawing.{Drawing}
@@ -65,7 +65,7 @@ unfolding turn nextMove unusable commandBeat pick
 turn-control l m room b d q =
     ap (roomFor room)
     (walk-idle l m b q (ap (λ (t : Bool). t && (eqb (b .mode) 5 || eqb (b .mode) 7)) d)
-    ∙ ap (λ (t : Bool). walk l m (fetch (b .address) (λ w. commandBy (unheld b) w t))) d)
+    ∙ ap (λ (t : Bool). walk l m (taking b (λ w. commandBy (ready b) w t))) d)
     ∙ room-bare room _ (next-bare l m b)
 
 -- NO MORE IS LEFT THAN WAS GIVEN

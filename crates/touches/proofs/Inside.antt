@@ -6,6 +6,8 @@ use lib.Dec.{leb}
 use lib.ListN.{getD}
 use Rattle.words.proofs.Laws.{pick-case}
 use Rattle.addresses.specs.declared.DisplayAddress.{DisplayAddress}
+use Rattle.registers.specs.declared.Held.{Held}
+use Rattle.registers.specs.declared.Held.the-variants.{Empty, Holds}
 use Rattle.loan.specs.declared.Loan.{Loan}
 use Rattle.loan.specs.Loan.{mayFetch, mayStore}
 use Rattle.touches.specs.declared.Act.{Act}
@@ -15,7 +17,7 @@ use Rattle.touches.specs.declared.Stores.{Stores}
 use Rattle.touches.specs.declared.Stores.the-variants.{Nowhere, Two}
 use Rattle.touches.specs.declared.Why.{Why}
 use Rattle.touches.specs.declared.Why.the-variants.{Fetch, Store, Wide, Full}
-use Rattle.touches.specs.Touches.{Beat, fetch, act, rest, Turn, Fails, Rests, Does, fetched, onGot, allowed, walk}
+use Rattle.touches.specs.Touches.{Beat, fetch, act, rest, takingBy, Turn, Fails, Rests, Does, fetched, onGot, allowed, walk}
 
 -- an address of 15 bits
 abbrev pub Within : DisplayAddress → Type 0
@@ -30,6 +32,11 @@ abbrev pub Inside : Beat → Type 0
 Inside (fetch a k) = Within a × ((w : ℕ) → Inside (k w))
 Inside (act c) = InsideStores (c .stores)
 Inside (rest resting) = Unit {0}
+
+-- a held word is no touch
+pub taking-inside : (a : DisplayAddress) (k : ℕ → Beat) (h : Held) → Within a → ((w : ℕ) → Inside (k w)) → Inside (takingBy a k h)
+taking-inside a k Empty q i = (q, i)
+taking-inside a k (Holds word) q i = i word
 
 -- the touch that could not be made is inside
 abbrev pub InsideWhy : Why → Type 0

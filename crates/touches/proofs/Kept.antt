@@ -7,26 +7,40 @@ use lib.ListN.{getD}
 use borrow.Author.Tests.{leb-true}
 use Rattle.words.proofs.Laws.{pick-case}
 use Rattle.addresses.specs.declared.DisplayAddress.{DisplayAddress}
-use Rattle.registers.specs.Good.{Good}
+use Rattle.registers.specs.declared.Held.{Held}
+use Rattle.registers.specs.declared.Held.the-variants.{Empty, Holds}
+use Rattle.registers.specs.Good.{GoodHeld, Good}
 use Rattle.loan.specs.declared.Loan.{Loan}
 use Rattle.loan.specs.Loan.{mayFetch, mayStore}
 use Rattle.touches.specs.declared.Act.{Act}
 use Rattle.touches.specs.declared.Got.{Got}
 use Rattle.touches.specs.declared.Got.the-variants.{Word, Not}
+use Rattle.touches.specs.declared.Resting.{Resting}
+use Rattle.touches.specs.declared.Resting.the-variants.{External, Unusable}
 use Rattle.touches.specs.declared.Stores.{Stores}
 use Rattle.touches.specs.declared.Stores.the-variants.{Nowhere, Two}
-use Rattle.touches.specs.Touches.{Beat, fetch, act, rest, Turn, Fails, Rests, Does, fetched, onGot, allowed, walk}
+use Rattle.touches.specs.Touches.{Beat, fetch, act, rest, takingBy, Turn, Fails, Rests, Does, fetched, onGot, allowed, walk}
 
--- a beat is good if it leaves good registers for whatever good words it fetches
+-- a rest is good if the word that it holds is
+abbrev pub GoodRest : Resting → Type 0
+GoodRest (External word) = word ≤ 4095
+GoodRest Unusable = Unit {0}
+
+-- a beat is good if it leaves good registers, or holds a good word, for whatever good words it fetches
 abbrev pub GoodBeat : Beat → Type 0
 GoodBeat (fetch a k) = (w : ℕ) → w ≤ 4095 → GoodBeat (k w)
 GoodBeat (act c) = Good (c .registers)
-GoodBeat (rest resting) = Unit {0}
+GoodBeat (rest resting) = GoodRest resting
 
--- a turn is good if the beat that it makes leaves good registers
+-- what is good with every good word is good with the next command's first word
+pub taking-good : (a : DisplayAddress) (k : ℕ → Beat) (h : Held) → GoodHeld h → ((w : ℕ) → w ≤ 4095 → GoodBeat (k w)) → GoodBeat (takingBy a k h)
+taking-good a k Empty g i = i
+taking-good a k (Holds word) g i = i word g
+
+-- a turn is good if the beat that it makes leaves good registers, or the rest is good
 abbrev pub GoodTurn : Turn → Type 0
 GoodTurn (Fails why) = Unit {0}
-GoodTurn (Rests resting) = Unit {0}
+GoodTurn (Rests resting) = GoodRest resting
 GoodTurn (Does c) = Good (c .registers)
 
 -- a word that is got is good
@@ -53,4 +67,4 @@ walk-good l m (fetch a k) h = by (λ w q. walk-good l m (k w) (h w q)) (fetched 
     by ih (Word w) q = ih w q
     by ih (Not why) q = tt
 walk-good l m (act c) h = allowed-good l c h (c .stores)
-walk-good l m (rest resting) h = tt
+walk-good l m (rest resting) h = h

@@ -21,9 +21,9 @@ use Rattle.drawing.proofs.Kept.{point-good, increment-good, vector-good, short-
 use Rattle.loan.specs.declared.Loan.{Loan}
 use Rattle.touches.specs.declared.Act.{Act}
 use Rattle.touches.specs.Touches.{Turn, Fails, Rests, Does, walk}
-use Rattle.touches.proofs.Kept.{GoodBeat, GoodTurn, walk-good}
-use Rattle.control_beats.specs.ControlWords.{unheld}
-use Rattle.control_beats.proofs.Kept.{control-good}
+use Rattle.touches.proofs.Kept.{GoodRest, GoodBeat, GoodTurn, taking-good, walk-good}
+use Rattle.control_beats.specs.ControlWords.{ready}
+use Rattle.control_beats.proofs.Kept.{ready-good, control-good}
 use Rattle.beam.specs.DataWords.{points}
 use Rattle.turns.specs.OneTurn.{longBeat, dataBeat, commandBeat, unusable, idleBeat, beatBy, beat, roomFor, turn}
 
@@ -36,10 +36,10 @@ usable true false true d u = (refl, u)
 usable true true y d u = (u, cc)
 usable false x y d u = (cc, cc)
 
--- the end of hold makes no mode unusable
-held-unusable : (b : Base) → unusable b ≡ false → unusable (unheld b) ≡ false
+-- how a command beat begins makes no mode unusable
+ready-usable : (b : Base) → unusable b ≡ false → unusable (ready b) ≡ false
 unfolding unusable
-held-unusable b u = u
+ready-usable b u = u
 
 data-good : (b : Base) (w : ℕ) → GoodBase b → b .datastate ≡ true → unusable b ≡ false → w ≤ 4095 → GoodBeat (dataBeat b w)
 unfolding dataBeat longBeat unusable
@@ -57,9 +57,11 @@ data-good b w g d u h =
 idle-good : (b : Base) → GoodBase b → GoodBeat (idleBeat b)
 unfolding idleBeat commandBeat
 idle-good b g =
-    pick-case GoodBeat (b .request) (λ _. tt)
+    let begun = ready-good b g in
+    pick-case GoodBeat (b .request) (λ _. taking-good (b .address) _ (b .held) (g .held) (λ _ h. h))
     (λ _. pick-case GoodBeat (unusable b) (λ _. tt)
-    (λ u w h. pick-case GoodBeat (b .datastate) (λ d. data-good (unheld b) w g d (held-unusable b u) h) (λ _. control-good (unheld b) w g)))
+    (λ u. taking-good (b .address) _ (b .held) (g .held)
+    (λ w h. pick-case GoodBeat (b .datastate) (λ d. data-good (ready b) w begun d (ready-usable b u) h) (λ _. control-good (ready b) w begun))))
 
 by-good : (r : Registers) → Good r → (v : Moving) → nextMove (r .motion) (r .base .mode) (r .base .scale) ≡ v → GoodBeat (beatBy (r .base) v)
 by-good r g Still e = idle-good (r .base) (g .base)
@@ -76,13 +78,13 @@ pub record Fine (room : ℕ) (c : Act) : Type 0 where
 
 abbrev pub FineTurn : ℕ → Turn → Type 0
 FineTurn room (Fails why) = Unit {0}
-FineTurn room (Rests resting) = Unit {0}
+FineTurn room (Rests resting) = GoodRest resting
 FineTurn room (Does c) = Fine room c
 
 room-fine : (room : ℕ) (t : Turn) → GoodTurn t → FineTurn room (roomFor room t)
 unfolding roomFor
 room-fine room (Fails why) h = tt
-room-fine room (Rests resting) h = tt
+room-fine room (Rests resting) h = h
 room-fine room (Does c) h =
     pick-case (FineTurn room) (leb (length (points (c .lit))) room)
     (λ e. record { good = h; fits = leb-true _ _ e })

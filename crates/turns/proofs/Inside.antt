@@ -15,8 +15,8 @@ use Rattle.moves.specs.declared.Moving.the-variants.{Still, Going}
 use Rattle.moves.specs.DataWords.{nextMove}
 use Rattle.loan.specs.declared.Loan.{Loan}
 use Rattle.touches.specs.Touches.{Turn, Fails, Rests, Does, walk}
-use Rattle.touches.proofs.Inside.{Inside, InsideTurn, walk-inside}
-use Rattle.control_beats.specs.ControlWords.{unheld}
+use Rattle.touches.proofs.Inside.{Inside, InsideTurn, taking-inside, walk-inside}
+use Rattle.control_beats.specs.ControlWords.{ready}
 use Rattle.control_beats.proofs.Inside.{control-inside}
 use Rattle.turns.specs.OneTurn.{longBeat, dataBeat, commandBeat, unusable, idleBeat, beatBy, beat, roomFor, turn}
 
@@ -30,9 +30,10 @@ data-inside b w =
 idle-inside : (b : Base) → GoodBase b → Inside (idleBeat b)
 unfolding idleBeat commandBeat
 idle-inside b g =
-    pick-case Inside (b .request) (λ _. tt)
+    pick-case Inside (b .request) (λ _. taking-inside (b .address) _ (b .held) (g .address) (λ _. tt))
     (λ _. pick-case Inside (unusable b) (λ _. tt)
-    (λ _. (g .address, λ w. pick-case Inside (b .datastate) (λ _. data-inside (unheld b) w) (λ _. control-inside (unheld b) w))))
+    (λ _. taking-inside (b .address) _ (b .held) (g .address)
+    (λ w. pick-case Inside (b .datastate) (λ _. data-inside (ready b) w) (λ _. control-inside (ready b) w))))
 
 by-inside : (b : Base) → GoodBase b → (v : Moving) → Inside (beatBy b v)
 by-inside b g Still = idle-inside b g

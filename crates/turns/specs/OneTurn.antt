@@ -1,4 +1,4 @@
--- Section 'One turn of a run' of 01: the beat that the registers make, and tests 2 to 5 of a turn. How a beat's touches are made is in touches, the beats
+-- Section 'One turn of a run' of 01, with No. 4 of 02: the beat that the registers make, and tests 2 to 5 of a turn. How a beat's touches are made is in touches, the beats
 -- of control words are in control_beats. Assumes nothing.
 use Prim.Native.Nat.{ℕ}
 use mathlib.Core.Bool.{Bool, _&&_, _||_}
@@ -17,8 +17,8 @@ use Rattle.drawing.specs.DataWords.{point, increment, vector, shortVector, grap
 use Rattle.loan.specs.declared.Loan.{Loan}
 use Rattle.touches.specs.declared.Why.the-variants.{Full}
 use Rattle.touches.specs.declared.Resting.the-variants.{External, Unusable}
-use Rattle.touches.specs.Touches.{Beat, fetch, act, rest, Turn, Fails, Rests, Does, whole, walk}
-use Rattle.control_beats.specs.ControlWords.{unheld, controlBeat}
+use Rattle.touches.specs.Touches.{Beat, fetch, act, rest, taking, Turn, Fails, Rests, Does, whole, walk}
+use Rattle.control_beats.specs.ControlWords.{ready, controlBeat}
 
 -- DATA WORDS
 
@@ -37,20 +37,22 @@ dataBeat b w =
 
 -- A BEAT AND A TURN
 
--- a command beat ends pen hold and does the command: a data word or a control word
+-- a command beat ends pen hold, uses the held word up and does the command: a data word or a control word
 abbrev pub commandBy : Base → ℕ → Bool → Beat
 commandBy b w datastate = pick datastate (dataBeat b w) (controlBeat b w)
 
 unfoldable pub commandBeat : Base → ℕ → Beat
-commandBeat b w = commandBy (unheld b) w (b .datastate)
+commandBeat b w = commandBy (ready b) w (b .datastate)
 
 -- test 3: no motion, data state, mode 5 or 7
 unfoldable pub unusable : Base → Bool
 unusable b = b .datastate && (eqb (b .mode) 5 || eqb (b .mode) 7)
 
--- no motion: test 2, a stop request; test 3, an unusable mode; else the command at the display address
+-- no motion: test 2, a stop request, at which "the word at the display address is fetched and held", while "a second stop keeps the held word and fetches
+-- nothing" (02, No. 4); test 3, an unusable mode; else the command whose first word is held or at the display address
 abbrev pub idleBy : Base → Bool → Bool → Beat
-idleBy b request wrong = pick request (rest External) (pick wrong (rest Unusable) (fetch (b .address) (commandBeat b)))
+idleBy b request wrong =
+    pick request (taking b (λ w. rest (External w))) (pick wrong (rest Unusable) (taking b (commandBeat b)))
 
 unfoldable pub idleBeat : Base → Beat
 idleBeat b = idleBy b (b .request) (unusable b)

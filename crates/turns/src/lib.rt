@@ -67,7 +67,7 @@ fn command_beat(b: Base, word: u16, l: Loan, memory: &[u16], room: usize) -> Tur
     requires { ⌜ b .datastate ≡ true ⌝ }
     ensures { λ r. ⌜ said r ≡ roomFor room (walk l (now (memory .entry)) (commandBeat b word)) ⌝ }
 {
-    let ready = control_beats::unheld(b);
+    let ready = control_beats::ready(b);
     data_beat(ready, word, l, memory, room)
 }
 
@@ -84,11 +84,14 @@ fn idle_beat(b: Base, l: Loan, memory: &[u16], room: usize) -> Turn
     ensures { λ r. ⌜ said r ≡ roomFor room (walk l (now (memory .entry)) (idleBeat b)) ⌝ }
 {
     if b.request {
-        Turn::Rests(Resting::External)
+        match touches::taken(l, memory, b) {
+            Got::Word(word) => Turn::Rests(Resting::External(word)),
+            Got::Not(why) => Turn::Fails(why),
+        }
     } else if unusable(b) {
         Turn::Rests(Resting::Unusable)
     } else {
-        match touches::fetched(l, memory, b.address) {
+        match touches::taken(l, memory, b) {
             Got::Word(word) => command_beat(b, word, l, memory, room),
             Got::Not(why) => Turn::Fails(why),
         }

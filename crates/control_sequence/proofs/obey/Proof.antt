@@ -6,9 +6,8 @@ use borrow.Author.Needs.{needs}
 use denote.Ref.{now}
 use Rattle.touches.specs.Touches.{Turn, whole, walk}
 use Rattle.touches.specs.Said.{said}
-use Rattle.touches.proofs.Walk.{walk-not}
 use Rattle.control_sequence.specs.Sequence.{nextWord, obey}
-use Rattle.control_sequence.proofs.Obeying.{Far, Within, Beaten, left-some, worded, ends, fails, rests, goes, stops}
+use Rattle.control_sequence.proofs.Obeying.{Far, Within, Beaten, left-some, worded, unworded, ends, fails, rests, goes, stops}
 use Rattle.control_sequence.proofs.obey.Statement.{statement}
 use Rattle.control_sequence.proofs.obey.Tie as tie
 
@@ -37,12 +36,12 @@ module _ (c : tie.Then1 Inv-loop μ-loop) where
   turning = record { far = head .loop .inv; on = c .if1 .taken }
 
 -- behind the fetch
-abbrev fetching : tie.After-fetched Inv-loop μ-loop → tie.Then1 Inv-loop μ-loop
+abbrev fetching : tie.After-taken Inv-loop μ-loop → tie.Then1 Inv-loop μ-loop
 fetching c = c .before .before
 
 -- behind the beat: what the code made is the definition's turn
 module _ (c : tie.After-control-beat Inv-loop μ-loop) where
-  abbrev got : tie.After-fetched Inv-loop μ-loop
+  abbrev got : tie.After-taken Inv-loop μ-loop
   got = c .before .before .before .before .before .before
 
   abbrev turn : tie.Then1 Inv-loop μ-loop
@@ -51,9 +50,9 @@ module _ (c : tie.After-control-beat Inv-loop μ-loop) where
   turned : next turn ≡ said (c .control-beat .result)
   turned =
       worded _ _ (head turn .loop .base) (c .control-beat .result)
-      (got .fetched .ensures)
+      (got .taken .ensures)
       (c .before .before .before .before .word .given .1)
-      (c .before .before .unheld .ensures)
+      (c .before .before .ready .ensures)
       (c .control-beat .ensures)
 
 -- behind a beat that stored nothing, and its stop
@@ -154,7 +153,7 @@ same-length-5 c = turning (fetching (c .before .before .before)) .far .size
 returns-5 : tie.Need-returns-5 Inv-loop μ-loop
 returns-5 c =
     let got = c .before .before .before in
-    sym (fails (turning (fetching got)) (walk-not _ _ _ _ (got .fetched .ensures) (c .before .why2 .given .1)))
+    sym (fails (turning (fetching got)) (unworded _ _ (head (fetching got) .loop .base) (got .taken .ensures) (c .before .why2 .given .1)))
 
 -- behind the loop
 

@@ -11,5 +11,5 @@ rested-spec =
     (tie.spec
     (λ c. search needs)
     (λ c. search needs)
-    (λ c. rw (c .before .before .enum-told .given .1))
-    (λ c. rw (c .before .before .enum-told2 .given .1)))
+    (λ c. rw (c .before .before .before .resting .given .1))
+    (λ c. rw (c .before .before .enum-told .given .1)))

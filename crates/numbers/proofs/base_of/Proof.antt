@@ -1,4 +1,4 @@
--- `numbers::base_of` meets its promise: the two addresses are those that the row gives. Assumes nothing.
+-- `numbers::base_of` meets its promise: the two addresses and the held word are those that the row gives. Assumes nothing.
 use borrow.Author.Needs.{needs}
 use Rattle.numbers.proofs.base_of.Statement.{statement}
 use Rattle.numbers.proofs.base_of.Tie as tie
@@ -12,4 +12,5 @@ base-of-spec =
     (λ c. search needs)
     (λ c κs. search needs)
     (λ c κs. search needs)
-    (λ c. rw (c .base-with .ensures, c .before .given2 .ensures, c .before .before .given .ensures)))
+    (λ c κs. search needs)
+    (λ c. rw (c .base-with .ensures, c .before .held-of .ensures, c .before .before .given2 .ensures, c .before .before .before .given .ensures)))

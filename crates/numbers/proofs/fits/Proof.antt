@@ -1,4 +1,4 @@
--- `numbers::fits` meets its promise: the three parts are the callees'. Assumes nothing.
+-- `numbers::fits` meets its promise: the four parts are the callees'. Assumes nothing.
 use borrow.Author.Needs.{needs}
 use Rattle.numbers.specs.Numbers.{fits}
 use Rattle.numbers.proofs.fits.Statement.{statement}
@@ -12,4 +12,5 @@ fits-spec =
     (λ c κs. search needs)
     (λ c κs. search needs)
     (λ c κs. search needs)
-    (λ c. rw (c .before .before .flags-fit .ensures, c .before .narrow-fit .ensures, c .motion-fits .ensures)))
+    (λ c κs. search needs)
+    (λ c. rw (c .before .before .before .flags-fit .ensures, c .before .before .narrow-fit .ensures, c .before .held-fits .ensures, c .motion-fits .ensures)))

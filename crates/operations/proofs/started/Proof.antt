@@ -8,4 +8,4 @@ started-spec =
     tie.close
     (tie.spec
     (λ c κs. search needs)
-    (λ c. rw (c .stops-off .ensures)))
+    (λ c. rw (c .before .stops-off .ensures)))

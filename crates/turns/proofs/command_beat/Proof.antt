@@ -1,4 +1,4 @@
--- `turns::command_beat` meets its promise: data state picks the data word, hold ended. Assumes nothing.
+-- `turns::command_beat` meets its promise: data state picks the data word, for registers that are ready. Assumes nothing.
 use mathlib.Core.Path.{sym, ap, _∙_}
 use denote.Ref.{now}
 use Rattle.words.specs.Words.{pick}
@@ -15,4 +15,4 @@ command-beat-spec =
     (λ c κs. tt)
     (λ c κs. tt)
     (λ c. let a = c .before .before .before .args in c .data-beat .ensures ∙ sym (ap (roomFor (a .room)) (walk-command (a .l) (now (a .memory)) (a .b)
-    (a .word) (c .before .unheld .ensures) (c .before .before .before .pre)))))
+    (a .word) (c .before .ready .ensures) (c .before .before .before .pre)))))

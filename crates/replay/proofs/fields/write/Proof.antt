@@ -12,7 +12,6 @@ pub write-spec : {M : Type 1} → statement M
 write-spec =
     tie.close
     (tie.spec
-    (λ c κs. search needs)
     (λ c. search needs)
     (λ c κs. search needs)
     (λ c. let few : c .used .result ≤ ROW = rw (c .used .ensures) (used-few _) in search needs)

@@ -7,12 +7,13 @@ use crate::registers::{
 use crate::turn::Beat;
 use crate::words::{bit, field};
 
-/// 01, control words: the first three bits choose (manual 1.1.4).
+/// 01, control words: the first three bits choose (manual 1.1.4). `word` is the one at the display
+/// address, fetched or held; what else the command touches it fetches here.
 pub fn control_command_beat(
     registers: &mut Registers,
     memory: &mut LentMemory,
+    word: u16,
 ) -> Result<Beat, Ending> {
-    let word = memory.fetch(registers.display_address)?;
     match field(word, 0, 2) {
         0 => Ok(parameter(registers, word)),
         1 => Ok(mode(registers, word)),

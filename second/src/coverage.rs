@@ -1,5 +1,7 @@
 //! How often a stream of cases reaches each rule, seen from outside by runs of one beat each.
 
+mod stops;
+
 use std::collections::HashMap;
 use std::fmt;
 
@@ -85,9 +87,10 @@ const TOLD_DIFFERS: &str = "fence tells another touch than the first barred one 
 const NOT_READ_BACK: &str = "listing not read back to its words (should be 0)";
 const NOT_LISTED_SO: &str = "reading accepted of a text that its words do not list (should be 0)";
 const REFUSAL_WROTE: &str = "refused reading that changed a word (should be 0)";
-const SHOULD_BE_0: [&str; 5] = [
+const SHOULD_BE_0: [&str; 6] = [
     STEPWISE_DIFFERS,
     TOLD_DIFFERS,
+    stops::STOP_DIFFERS,
     NOT_READ_BACK,
     NOT_LISTED_SO,
     REFUSAL_WROTE,
@@ -101,8 +104,10 @@ const CONTROL_WORDS: [&str; 13] = [
     "0", "1", "2 jump", "2 push", "3", "4", "5", "60", "61", "62", "63", "64-67", "7",
 ];
 
-/// The touches of command beats, each with the last address that it has before it wraps to 0.
-const TOUCHES: [(&str, u16); 6] = [
+/// The touches of stops and command beats, each with the last address that it has before it wraps
+/// to 0.
+const TOUCHES: [(&str, u16); 7] = [
+    (STOPS_FETCH, 0o77777),
     ("first fetch", 0o77777),
     ("second word", 0o77777),
     ("pop's first cell", 0o7777),
@@ -110,6 +115,9 @@ const TOUCHES: [(&str, u16); 6] = [
     ("push's first write", 0o7777),
     ("push's second write", 0o7777),
 ];
+
+/// 02, No. 4: "The fetch is a touch".
+const STOPS_FETCH: &str = "stop's fetch";
 
 const LOANS: [&str; 6] = [
     "all",
@@ -192,6 +200,7 @@ fn row_names() -> Vec<String> {
     names.push("fenced at second word, a push's writes not lent".into());
     names.push("fenced at a fetch of a word above 4,095".into());
     names.push("fenced at a write into the file range".into());
+    names.push("word above 4,095 at a stop's fetch".into());
     names.push("word above 4,095 at the display address".into());
     names.push("word above 4,095 at a later fetch".into());
     for kind in LOANS {
@@ -223,6 +232,7 @@ fn row_names() -> Vec<String> {
     ] {
         names.push(what.into());
     }
+    names.extend(stops::row_names());
     names.extend(listing_row_names());
     names.extend(reading_row_names());
     names.extend(SHOULD_BE_0.map(String::from));
@@ -349,9 +359,12 @@ fn operation_reached(coverage: &mut Coverage, before: Registers, operation: u32,
     let (after, ending, word) = operate(before, operation, operand);
     if ending != Ending::Done {
         coverage.count(&format!("operation refused {}", ending.number()));
+        stops::refusal_reached(coverage, "operation", &before, ending);
         return;
     }
     coverage.count(&format!("operation {operation} accepted"));
+    stops::registers_reached(coverage, "operation", &before);
+    stops::operation_reached(coverage, &before, &after, operation);
     match operation {
         4 if !before.running => {
             coverage.count("resume of a stopped display");
@@ -383,9 +396,12 @@ fn run_reached(coverage: &mut Coverage, case: &RunCase) {
     let answer = whole.answer;
     if answer.ending.number() < 10 {
         coverage.count(&format!("run refused {}", answer.ending.number()));
+        stops::refusal_reached(coverage, "run", &case.registers, answer.ending);
         return;
     }
     coverage.count(&format!("ending {}", answer.ending.number()));
+    stops::registers_reached(coverage, "run", &case.registers);
+    stops::run_reached(coverage, case, &whole);
     loan_reached(coverage, case.loan);
     coverage.count_if(case.room == 0, "room 0");
     coverage.count_if(case.room == 1, "room 1");
@@ -424,22 +440,36 @@ fn beat_by_beat(
 ) -> Answer {
     let mut beats = 0;
     let mut lit = 0;
+    let mut behind_a_move = false;
     while beats < case.budget {
         let before = *registers;
+        // The word of memory at the display address, and the words of the command.
+        let own = peek(memory, before.display_address);
         let words = [
-            peek(memory, before.display_address),
+            before.held().unwrap_or(own),
             peek(memory, address_after(before.display_address, 1)),
         ];
         let rest = &mut points[lit as usize..];
         let answer = run(registers, memory, case.loan, 1, rest);
         beats += answer.beats;
         lit += answer.points;
+        let turn = stops::Turn {
+            loan: case.loan,
+            before: &before,
+            after: registers,
+            own,
+            first: words[0],
+            behind_a_move,
+        };
         if answer.beats == 1 {
             beat_reached(coverage, &before, registers, words, answer);
+            stops::beat_reached(coverage, &turn);
+            behind_a_move = before.motion != Motion::Nothing;
         }
         if answer.ending != Ending::BudgetSpent {
             if answer.beats == 0 {
                 barred_touch_reached(coverage, case.loan, &before, memory, answer.ending);
+                stops::ending_reached(coverage, &turn, answer.ending);
             }
             return Answer {
                 ending: answer.ending,
@@ -668,10 +698,13 @@ fn barred_touch_reached(
     memory: &[u16],
     ending: Ending,
 ) {
-    let first = peek(memory, before.display_address);
+    let own = peek(memory, before.display_address);
+    let first = before.held().unwrap_or(own);
     match ending {
         Ending::WordTooWide => {
-            let name = if first > GREATEST_WORD {
+            let name = if before.stop_request {
+                "word above 4,095 at a stop's fetch"
+            } else if first > GREATEST_WORD {
                 "word above 4,095 at the display address"
             } else {
                 "word above 4,095 at a later fetch"
@@ -689,7 +722,7 @@ fn barred_touch_reached(
     }
 }
 
-/// One touch of a command beat.
+/// One touch of a stop or a command beat.
 struct Touch {
     kind: &'static str,
     address: u16,
@@ -722,11 +755,23 @@ impl Touch {
     }
 }
 
-/// 01, one turn of a run: the touches of a command beat in their order, by its first word.
+/// 01, one turn of a run: the touches of a stop, or of a command beat in their order, by its first
+/// word. 02, No. 4: a held word is not fetched again.
 fn touches(before: &Registers, first: u16) -> Vec<Touch> {
     let pointer = before.pushdown_pointer;
     let second_word = Touch::fetch("second word", address_after(before.display_address, 1));
-    let mut touches = vec![Touch::fetch("first fetch", before.display_address)];
+    let mut touches = Vec::new();
+    if !before.word_is_held {
+        let kind = if before.stop_request {
+            STOPS_FETCH
+        } else {
+            "first fetch"
+        };
+        touches.push(Touch::fetch(kind, before.display_address));
+    }
+    if before.stop_request {
+        return touches;
+    }
     match (before.state, field(first, 0, 2)) {
         (State::Control, 2) => {
             touches.push(second_word);
@@ -973,8 +1018,8 @@ mod tests {
     use super::*;
 
     #[test]
-    fn a_few_thousand_cases_reach_every_row() {
-        let coverage = coverage(1, 9_000);
+    fn twenty_thousand_cases_reach_every_row() {
+        let coverage = coverage(1, 20_000);
         assert_eq!(coverage.never_reached(), Vec::<&str>::new());
         assert_eq!(coverage.wrongly_reached(), Vec::<&str>::new());
     }

@@ -8,13 +8,14 @@ use crate::registers::{
 use crate::turn::Beat;
 use crate::words::{bit, field};
 
-/// 01, data words: the command beat, by mode. Modes 5 and 7 end the run before any beat, so the
-/// last arm only says that ending again.
+/// 01, data words: the command beat, by mode. `first` is the word at the display address, fetched or
+/// held; a second one is fetched here. Modes 5 and 7 end the run before any beat, so the last arm
+/// only says that ending again.
 pub fn data_command_beat(
     registers: &mut Registers,
-    memory: &mut LentMemory,
+    memory: &LentMemory,
+    first: u16,
 ) -> Result<Beat, Ending> {
-    let first = memory.fetch(registers.display_address)?;
     match registers.mode {
         0 => Ok(point(registers, first, second_word(registers, memory)?)),
         1 => Ok(increment(registers, first)),

@@ -1,7 +1,8 @@
-//! A seeded generator of cases: plausible display files, wild ones and ones at the fence, words to
-//! list and listings to read, biased to the corners.
+//! A seeded generator of cases: plausible display files, wild ones and ones at the fence, external
+//! stops and held words, words to list and listings to read, biased to the corners.
 
 mod listings;
+mod stops;
 
 pub use listings::{
     cases_of_all_memory, cases_of_every_word, DAMAGES, OTHER_MODE, OTHER_RANGE, OTHER_STATE, RIGHT,
@@ -78,9 +79,10 @@ pub fn next_case(chance: &mut Chance) -> Case {
 pub fn next_case_and_change(chance: &mut Chance) -> (Case, Option<&'static str>) {
     let case = match chance.between(0, 99) {
         0..=19 => operation_case(chance),
-        20..=50 => Case::Run(structured_run(chance)),
-        51..=80 => Case::Run(wild_run(chance)),
-        81..=89 => Case::Run(fenced_run(chance)),
+        20..=45 => Case::Run(structured_run(chance)),
+        46..=69 => Case::Run(wild_run(chance)),
+        70..=77 => Case::Run(fenced_run(chance)),
+        78..=89 => Case::Run(stops::stop_run(chance)),
         90..=93 => Case::List(listings::listing_case(chance)),
         _ => {
             let (case, change) = listings::reading_case(chance);
@@ -199,7 +201,16 @@ fn bytes(chance: &mut Chance) -> Bytes {
     }
 }
 
-/// Registers in range, with no motion or with one that the rules allow.
+/// A good word to be held, the least and the greatest often.
+fn word_to_hold(chance: &mut Chance) -> u16 {
+    match chance.between(0, 9) {
+        0 => 0,
+        1 => 0o7777,
+        _ => chance.good_word(),
+    }
+}
+
+/// Registers in range, with no motion or with one that the rules allow, some with a held word.
 fn registers_in_range(chance: &mut Chance) -> Registers {
     let mut registers = Registers {
         display_address: address(chance),
@@ -231,8 +242,13 @@ fn registers_in_range(chance: &mut Chance) -> Registers {
         conditions: conditions(chance),
         running: chance.percent(50),
         stop_request: chance.percent(12),
+        word_is_held: false,
+        held_word: 0,
         motion: Motion::Nothing,
     };
+    if chance.percent(15) {
+        registers.hold(word_to_hold(chance));
+    }
     if chance.percent(40) {
         leave_one_flag(chance, &mut registers);
     }
@@ -281,7 +297,7 @@ fn put_in_bytes(chance: &mut Chance, registers: &mut Registers) {
 
 /// One field put out of range, each in its turn, the rules of motion too.
 fn spoil(chance: &mut Chance, registers: &mut Registers) {
-    match chance.between(0, 19) {
+    match chance.between(0, 21) {
         0 => registers.display_address = beyond(chance, 32_768),
         1 => registers.pushdown_pointer = beyond(chance, 4_096),
         2 => registers.x = beyond(chance, 8_192),
@@ -291,7 +307,17 @@ fn spoil(chance: &mut Chance, registers: &mut Registers) {
         6 => registers.intensity = beyond_eight_bits(chance, 8),
         7 => registers.buttons = beyond(chance, 4_096),
         8 => registers.conditions = beyond(chance, 4_096),
-        9..=14 => spoil_line(chance, registers),
+        9 => registers.hold(beyond(chance, 4_096)),
+        10 => {
+            // A word where none is held.
+            registers.word_is_held = false;
+            registers.held_word = if chance.coin() {
+                chance.between(1, 4_095)
+            } else {
+                beyond(chance, 4_096)
+            };
+        }
+        11..=16 => spoil_line(chance, registers),
         _ => spoil_bytes(chance, registers),
     }
 }
@@ -374,6 +400,9 @@ fn operation_case(chance: &mut Chance) -> Case {
         chance.pick(&known)
     };
     let operand = operand(chance, operation);
+    if chance.percent(25) {
+        registers.hold(word_to_hold(chance));
+    }
     if operation == 4 && chance.percent(60) {
         // A display that the pen stopped, with the pen to be disabled on resuming.
         registers.running = false;
@@ -810,6 +839,7 @@ fn structured_run(chance: &mut Chance) -> RunCase {
     registers.motion = Motion::Nothing;
     registers.running = chance.percent(97);
     registers.stop_request = chance.percent(4);
+    hold_the_first_word(&mut registers, &file);
     spoil_a_word(chance, &mut pairs);
     if chance.percent(3) {
         spoil(chance, &mut registers);
@@ -831,6 +861,13 @@ fn structured_run(chance: &mut Chance) -> RunCase {
             default: default_word(chance),
             pairs: kept_pairs(pairs, memory_length),
         },
+    }
+}
+
+/// A held word becomes the file's first, so that the file goes on as it was written.
+fn hold_the_first_word(registers: &mut Registers, file: &File) {
+    if registers.word_is_held {
+        registers.held_word = file.words[0];
     }
 }
 
@@ -969,6 +1006,7 @@ fn fenced_run(chance: &mut Chance) -> RunCase {
         }
         _ => write_data(chance, &mut file),
     }
+    hold_the_first_word(&mut registers, &file);
     let word = address_after(command, chance.between(0, 2));
     let cell = pointer_after(first_cell, chance.between(0, 1));
     RunCase {
@@ -1000,6 +1038,7 @@ fn fenced_run(chance: &mut Chance) -> RunCase {
 #[cfg(test)]
 mod tests {
     use super::*;
+    use crate::host_operations::operate;
     use crate::refusals_and_endings::Ending;
     use crate::replay::{read_case, replay, write_case, Outcome};
     use crate::turn::run;
@@ -1213,5 +1252,129 @@ mod tests {
                 whole.points
             );
         }
+    }
+
+    /// What the parts of a run leave together: their points one behind another, and their beats
+    /// added up.
+    fn joined(parts: &[&Outcome]) -> (u32, Vec<u32>) {
+        let beats = parts.iter().map(|part| part.answer.beats).sum();
+        let lit = parts.iter().map(|part| {
+            let lit = part.answer.points as usize;
+            &part.points[..lit]
+        });
+        (beats, lit.collect::<Vec<_>>().concat())
+    }
+
+    /// The run that goes on from where another left off, with the rest of its room.
+    fn going_on(case: &RunCase, left: &Outcome, registers: Registers) -> RunCase {
+        RunCase {
+            registers,
+            room: left.points.len() - left.answer.points as usize,
+            ..case.clone()
+        }
+    }
+
+    /// Manual 1.1.9.2: an external stop "allows simple resuming of the sequence". Where the stop's
+    /// fetch can't be made, the beat that comes next can't be made either.
+    #[test]
+    fn a_stop_and_a_resume_do_not_show() {
+        let mut chance = Chance::new(66);
+        let mut stops = 0;
+        for mut case in runs(6, 6_000) {
+            // Resume would clear the flags that stop.
+            case.registers.clear_stopping_flags();
+            case.registers.stop_request = false;
+            let whole = outcome(&case, case.memory(), case.loan, case.budget);
+            if whole.answer.ending.number() < 10 || case.budget == 0 {
+                continue;
+            }
+            let first_part = u32::from(chance.between(0, case.budget as u16));
+            let first = outcome(&case, case.memory(), case.loan, first_part);
+            if first.answer.ending != Ending::BudgetSpent {
+                continue;
+            }
+            let asked = going_on(&case, &first, operate(first.registers, 6, 0).0);
+            let budget = case.budget - first_part;
+            let stop = outcome(&asked, first.memory.clone(), case.loan, budget);
+            let unusable =
+                first.registers.state == State::Data && matches!(first.registers.mode, 5 | 7);
+            let (all, mut left) = if stop.answer.ending == Ending::ExternalStop {
+                stops += 1;
+                assert!(stop.registers.word_is_held);
+                let resumed = going_on(&asked, &stop, operate(stop.registers, 4, 0).0);
+                let budget = budget - stop.answer.beats;
+                let rest = outcome(&resumed, stop.memory.clone(), case.loan, budget);
+                assert_eq!(rest.answer.ending, whole.answer.ending);
+                (joined(&[&first, &stop, &rest]), rest)
+            } else {
+                assert!(stop.registers.stop_request);
+                if !unusable {
+                    assert_eq!(stop.answer.ending, whole.answer.ending);
+                }
+                (joined(&[&first, &stop]), stop)
+            };
+            assert_eq!(all, joined(&[&whole]));
+            assert_eq!(left.memory, whole.memory);
+            left.registers.stop_request = false;
+            if left.registers.held() != whole.registers.held() {
+                // The run ends behind the stop, and no beat of it used the word.
+                assert_eq!(whole.registers.held(), None);
+                left.registers.drop_held_word();
+            }
+            if unusable {
+                left.registers.running = whole.registers.running;
+            }
+            assert_eq!(left.registers, whole.registers);
+        }
+        assert!(stops > 500, "{stops}");
+    }
+
+    /// 02, No. 4: the held word stands for the one at the address, for one command beat, and that
+    /// one has no say, unless a pop finds it on its list.
+    #[test]
+    fn a_held_word_is_the_word_at_the_address() {
+        let mut held = 0;
+        for case in runs(7, 10_000) {
+            let Some(word) = case.registers.held() else {
+                continue;
+            };
+            let no_motion = case.registers.motion == Motion::Nothing;
+            if !case.registers.are_in_range() || !no_motion || case.registers.stop_request {
+                continue;
+            }
+            let pointer = case.registers.pushdown_pointer;
+            let cells = [pointer_before(pointer, 2), pointer_before(pointer, 1)];
+            if word >> 9 == 3 && cells.contains(&case.registers.display_address) {
+                continue;
+            }
+            let address = usize::from(case.registers.display_address);
+            let with_own = |own: u16| {
+                let mut memory = case.memory();
+                if let Some(place) = memory.get_mut(address) {
+                    *place = own;
+                }
+                memory
+            };
+            let using = outcome(&case, case.memory(), Loan::all(), 1);
+            for own in [0, 0o7777, 0o10000] {
+                let other = outcome(&case, with_own(own), Loan::all(), 1);
+                assert_eq!(using.answer, other.answer);
+                assert_eq!(using.registers, other.registers);
+                assert_eq!(using.points, other.points);
+            }
+            let mut fetching = case.clone();
+            fetching.registers.drop_held_word();
+            let fetched = outcome(&fetching, with_own(word), Loan::all(), 1);
+            assert_eq!(using.answer, fetched.answer);
+            assert_eq!(using.points, fetched.points);
+            let mut left = using.registers;
+            if using.answer.beats == 0 {
+                assert_eq!(left.held(), Some(word));
+                left.drop_held_word();
+            }
+            assert_eq!(left, fetched.registers);
+            held += 1;
+        }
+        assert!(held > 500, "{held}");
     }
 }

@@ -73,11 +73,12 @@ fn start(registers: &mut Registers, address: u16) {
     registers.running = true;
 }
 
-/// What start and clear have in common.
+/// What start and clear have in common. 02, No. 4: "Start and clear drop the held word".
 fn clear_for_a_beginning(registers: &mut Registers) {
     registers.mode = 0;
     registers.clear_stopping_flags();
     registers.stop_request = false;
+    registers.drop_held_word();
     registers.pen_hold = false;
     registers.motion = Motion::Nothing;
     registers.state = State::Control;
@@ -85,7 +86,7 @@ fn clear_for_a_beginning(registers: &mut Registers) {
 
 /// 01, operation 4: "if stopped, clears those flags and runs; if the pen flag was on and condition
 /// bit 2 is 1, pen enable goes off, and hold goes on if bit 3 is 0". A waiting stop request is not
-/// named and stays.
+/// named and stays. 02, No. 4: a held word stays for the first command beat that is made.
 fn resume(registers: &mut Registers) {
     if registers.running {
         return;
@@ -233,7 +234,7 @@ mod tests {
         word
     }
 
-    /// Everything on that can be on, and a line unfinished.
+    /// Everything on that can be on, a word held, and a line unfinished.
     fn busy() -> Registers {
         Registers {
             display_address: 0o54321,
@@ -261,6 +262,8 @@ mod tests {
             conditions: 0o7777,
             running: true,
             stop_request: true,
+            word_is_held: true,
+            held_word: 0o2345,
             motion: Motion::Line(Line {
                 y_minus: false,
                 x_minus: false,
@@ -314,6 +317,8 @@ mod tests {
             pen_flag: false,
             running: true,
             stop_request: false,
+            word_is_held: false,
+            held_word: 0,
             motion: Motion::Nothing,
             ..busy()
         };
@@ -345,6 +350,46 @@ mod tests {
             ..done(busy(), 1, 0)
         };
         assert_eq!(done(busy(), 5, 0), expected);
+    }
+
+    #[test]
+    fn only_start_and_clear_drop_the_held_word() {
+        for running in [false, true] {
+            for word in [0, 0o2345, 0o7777] {
+                let mut given = Registers { running, ..busy() };
+                given.hold(word);
+                for operation in (1..=12).chain(20..=26) {
+                    let (after, ending, _) = operate(given, operation, 0);
+                    assert_eq!(ending, Ending::Done);
+                    let dropped = operation == 1 || operation == 5;
+                    let kept = (!dropped).then_some(word);
+                    assert_eq!(after.held(), kept, "operation {operation}");
+                    assert!(after.are_in_range());
+                }
+            }
+        }
+    }
+
+    #[test]
+    fn a_held_word_out_of_range_is_refusal_4() {
+        let too_wide = Registers {
+            held_word: 4_096,
+            ..busy()
+        };
+        let none_held = Registers {
+            word_is_held: false,
+            held_word: 1,
+            ..busy()
+        };
+        for unfit in [too_wide, none_held] {
+            // Start and clear too, which would drop it.
+            for operation in [1, 4, 5, 20, 99] {
+                assert_eq!(
+                    operate(unfit, operation, 0),
+                    (unfit, Ending::RegistersOutOfRange, 0)
+                );
+            }
+        }
     }
 
     #[test]

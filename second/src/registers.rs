@@ -82,6 +82,10 @@ pub struct Registers {
     pub conditions: u16,
     pub running: bool,
     pub stop_request: bool,
+    /// 02, No. 4: whether a word is held since an external stop.
+    pub word_is_held: bool,
+    /// 12 bits; 0 where none is held.
+    pub held_word: u16,
     pub motion: Motion,
 }
 
@@ -112,7 +116,8 @@ pub fn pointer_before(pointer: u16, count: u16) -> u16 {
 }
 
 impl Registers {
-    /// 01, registers: "Fresh is all zero: control state, not running, no motion".
+    /// 01, registers: "Fresh is all zero: control state, not running, no motion". So no word is held
+    /// either.
     pub fn fresh() -> Registers {
         Registers {
             display_address: 0,
@@ -140,12 +145,14 @@ impl Registers {
             conditions: 0,
             running: false,
             stop_request: false,
+            word_is_held: false,
+            held_word: 0,
             motion: Motion::Nothing,
         }
     }
 
     /// 01, registers: "Values outside this are refusal 4". Nothing else is asked: a display that
-    /// runs with a stopping flag on, or waits with a stop request, is accepted.
+    /// runs with a stopping flag on or with a held word, or waits with a stop request, is accepted.
     pub fn are_in_range(&self) -> bool {
         self.display_address < ADDRESSES
             && self.pushdown_pointer < POINTERS
@@ -156,7 +163,15 @@ impl Registers {
             && self.intensity <= 7
             && self.buttons <= GREATEST_WORD
             && self.conditions <= GREATEST_WORD
+            && self.held_word_is_in_range()
             && self.motion_is_in_range()
+    }
+
+    /// 02, No. 4: "a held word above 4,095 is refusal 4". So is any word but 0 where none is held,
+    /// so that a state has one form only.
+    fn held_word_is_in_range(&self) -> bool {
+        let greatest = if self.word_is_held { GREATEST_WORD } else { 0 };
+        self.held_word <= greatest
     }
 
     /// 01, registers, the paragraph on motion.
@@ -170,6 +185,23 @@ impl Registers {
                 self.state == State::Data && self.mode == 1 && bytes.is_in_range()
             }
         }
+    }
+
+    /// 02, No. 4: the word that is held, if there is one.
+    pub fn held(&self) -> Option<u16> {
+        self.word_is_held.then_some(self.held_word)
+    }
+
+    /// The word is held from now on.
+    pub fn hold(&mut self, word: u16) {
+        self.word_is_held = true;
+        self.held_word = word;
+    }
+
+    /// No word is held from now on.
+    pub fn drop_held_word(&mut self) {
+        self.word_is_held = false;
+        self.held_word = 0;
     }
 
     /// 01, registers: the display address holds the manual's break field in its upper three bits.
@@ -301,6 +333,8 @@ mod tests {
             intensity: 7,
             buttons: 4_095,
             conditions: 4_095,
+            word_is_held: true,
+            held_word: 4_095,
             ..Registers::fresh()
         };
         assert!(good.are_in_range());
@@ -333,6 +367,61 @@ mod tests {
             ..good
         }
         .are_in_range());
+        assert!(!Registers {
+            held_word: 4_096,
+            ..good
+        }
+        .are_in_range());
+    }
+
+    #[test]
+    fn where_no_word_is_held_the_held_word_is_0() {
+        for word in [1, 0o1400, 4_095, 4_096, 65_535] {
+            let unfit = Registers {
+                held_word: word,
+                ..Registers::fresh()
+            };
+            assert!(!unfit.are_in_range(), "{word}");
+        }
+        // A held word of 0 is a word, and not the same as none.
+        let mut registers = Registers::fresh();
+        assert_eq!(registers.held(), None);
+        registers.hold(0);
+        assert!(registers.are_in_range());
+        assert_eq!(registers.held(), Some(0));
+        assert_ne!(registers, Registers::fresh());
+        registers.hold(0o7777);
+        assert_eq!(registers.held(), Some(0o7777));
+        registers.drop_held_word();
+        assert_eq!(registers, Registers::fresh());
+    }
+
+    #[test]
+    fn a_held_word_is_accepted_in_every_state() {
+        let line = Motion::Line(line());
+        let bytes = Motion::Bytes(Bytes {
+            word: 0o3612,
+            side: Side::Left,
+            moves_left: 3,
+        });
+        let still = (0..8).map(|mode| moving(Motion::Nothing, mode));
+        let states = [Registers::fresh(), moving(line, 2), moving(bytes, 1)];
+        for state in states.into_iter().chain(still) {
+            for running in [false, true] {
+                for stop_request in [false, true] {
+                    for external_stop_flag in [false, true] {
+                        let mut holding = Registers {
+                            running,
+                            stop_request,
+                            external_stop_flag,
+                            ..state
+                        };
+                        holding.hold(0o1400);
+                        assert!(holding.are_in_range(), "{holding:?}");
+                    }
+                }
+            }
+        }
     }
 
     #[test]

@@ -11,11 +11,11 @@ use crate::turn::run;
 
 // The widths, which decide between `error N` (it does not fit) and a refusal (it fits but is out
 // of range). The format leaves them to the call's types; these are the types of this library:
-//   16 bits: addr ptr x y buttons cond, the line's magnitudes, n and k, the bytes' word and moves
-//            left, FLO FHI LLO LHI, LO HI, DEFAULT, the pairs' addresses and words;
+//   16 bits: addr ptr x y buttons cond heldword, the line's magnitudes, n and k, the bytes' word and
+//            moves left, FLO FHI LLO LHI, LO HI, DEFAULT, the pairs' addresses and words;
 //    8 bits: mode scale intensity, STATE and MODE of a listing;
 //   32 bits: OP, OPERAND, BUDGET;
-//    1 bit:  state, every flag, signs, lit, escape, side;
+//    1 bit:  state, every flag, held, signs, lit, escape, side;
 //   MOTION is 0, 1 or 2; MEMLEN is at most 32,769; ROOM at most 65,536, or 1,500,000 bytes of text;
 //   a pair's address is below MEMLEN; COUNT is the number of pairs that follow.
 // A number is one or more of the digits 0 to 9. Leading zeros are accepted, as many as there are.
@@ -205,7 +205,7 @@ impl<'a> Numbers<'a> {
         }
     }
 
-    /// The format's registers: 25 numbers in this order, then the motion.
+    /// The format's registers: 27 numbers in this order, then the motion.
     fn registers(&mut self) -> Option<Registers> {
         Some(Registers {
             display_address: self.sixteen_bits()?,
@@ -237,6 +237,8 @@ impl<'a> Numbers<'a> {
             conditions: self.sixteen_bits()?,
             running: self.flag()?,
             stop_request: self.flag()?,
+            word_is_held: self.flag()?,
+            held_word: self.sixteen_bits()?,
             motion: self.motion()?,
         })
     }
@@ -567,6 +569,8 @@ fn write_registers(line: &mut String, registers: &Registers) {
     number(line, registers.conditions);
     number(line, registers.running);
     number(line, registers.stop_request);
+    number(line, registers.word_is_held);
+    number(line, registers.held_word);
     write_motion(line, &registers.motion);
 }
 
@@ -616,7 +620,7 @@ pub fn replay(mut input: impl BufRead, mut output: impl Write) -> io::Result<()>
 mod tests {
     use super::*;
 
-    const FRESH: &str = "0 0 0 0 0 0 0 0 0 0 0 0 0 0 0 0 0 0 0 0 0 0 0 0 0 0";
+    const FRESH: &str = "0 0 0 0 0 0 0 0 0 0 0 0 0 0 0 0 0 0 0 0 0 0 0 0 0 0 0 0";
 
     fn replayed(input: &str) -> String {
         let mut output = Vec::new();
@@ -625,10 +629,15 @@ mod tests {
     }
 
     #[test]
-    fn the_formats_own_example() {
+    fn the_formats_own_examples() {
         assert_eq!(
-            replayed("op 0 0 0 0 0 0 0 0 0 0 0 0 0 0 0 0 0 0 0 0 0 0 0 0 0 0 1 128\n"),
-            "op 0 0 128 0 0 0 0 0 0 0 0 0 0 0 0 0 0 0 0 0 0 0 0 0 0 1 0 0\n"
+            replayed("op 0 0 0 0 0 0 0 0 0 0 0 0 0 0 0 0 0 0 0 0 0 0 0 0 0 0 0 0 1 128\n"),
+            "op 0 0 128 0 0 0 0 0 0 0 0 0 0 0 0 0 0 0 0 0 0 0 0 0 0 1 0 0 0 0\n"
+        );
+        // A word where none is held.
+        assert_eq!(
+            replayed("op 0 0 0 0 0 0 0 0 0 0 0 0 0 0 0 0 0 0 0 0 0 0 0 0 0 0 5 0 20 0\n"),
+            "op 4 0 0 0 0 0 0 0 0 0 0 0 0 0 0 0 0 0 0 0 0 0 0 0 0 0 0 0 5 0\n"
         );
     }
 
@@ -640,18 +649,18 @@ mod tests {
     #[test]
     fn a_run_answers_points_and_changed_words() {
         // The practice example, and a push jump before it: words at 128 to 131 and 64, 65.
-        let case = "run 64 4095 0 0 0 0 0 0 0 0 0 0 0 0 0 0 0 0 0 0 0 0 0 1 0 0 \
+        let case = "run 64 4095 0 0 0 0 0 0 0 0 0 0 0 0 0 0 0 0 0 0 0 0 0 1 0 0 0 0 \
                     100 0 32768 0 32768 8 32768 0 6 64 1032 65 128 128 577 129 2148 130 2248 131 768\n";
         assert_eq!(
             replayed(case),
-            "run 12 4 1 0 132 1 200 100 0 0 0 0 0 0 0 0 0 0 0 0 1 0 0 0 0 0 0 0 0 0 P 102600 M 0 66\n"
+            "run 12 4 1 0 132 1 200 100 0 0 0 0 0 0 0 0 0 0 0 0 1 0 0 0 0 0 0 0 0 0 0 0 P 102600 M 0 66\n"
         );
     }
 
     #[test]
     fn a_run_that_ends_at_the_fence_answers_the_address() {
         // The same push jump at 64, and the registers that it leaves as they are.
-        let registers = "64 4095 0 0 0 0 0 0 0 0 0 0 0 0 0 0 0 0 0 0 0 0 0 1 0 0";
+        let registers = "64 4095 0 0 0 0 0 0 0 0 0 0 0 0 0 0 0 0 0 0 0 0 0 1 0 0 0 0";
         for (loan, answer) in [
             ("0 0 0 0", "run 16 0 0 64"),
             ("0 65 0 0", "run 16 0 0 65"),
@@ -664,6 +673,71 @@ mod tests {
                 )),
                 format!("{answer} {registers} P M\n")
             );
+        }
+    }
+
+    /// Fresh registers but for the address, the external stop flag, running, request, held and
+    /// heldword.
+    fn stopping(flag: u32, running: u32, request: u32, held: &str) -> String {
+        let before_flag = "64 0 0 0 0 0 0 0 0 0 0 0 0 0 0 0 0";
+        format!("{before_flag} {flag} 0 0 0 0 0 {running} {request} {held} 0")
+    }
+
+    #[test]
+    fn a_stop_answers_the_held_word_and_a_run_uses_it() {
+        let answer = |registers: &str, rest: &str| replayed(&format!("run {registers} {rest}\n"));
+        // The stop code 1400o is held at 64.
+        let asked = stopping(0, 1, 1, "0 0");
+        let stopped = stopping(1, 0, 0, "1 768");
+        assert_eq!(
+            answer(&asked, "9 64 65 0 0 8 32768 0 1 64 768"),
+            format!("run 13 0 0 0 {stopped} P M\n")
+        );
+        // It is 16 and 17 where it can't be fetched, and 11 before that.
+        for (rest, numbers) in [
+            ("9 65 32768 0 0 8 32768 0 1 64 768", "16 0 0 64"),
+            ("9 64 65 0 0 8 32768 0 1 64 4096", "17 0 0 0"),
+            ("0 65 32768 0 0 8 32768 0 1 64 768", "11 0 0 0"),
+        ] {
+            assert_eq!(answer(&asked, rest), format!("run {numbers} {asked} P M\n"));
+        }
+        // Resumed, it stops the display again from inside, with no word lent and 0 at 64 by now.
+        let resumed = stopping(0, 1, 0, "1 768");
+        assert_eq!(
+            replayed(&format!("op {stopped} 4 0\n")),
+            format!("op 0 0 {resumed}\n")
+        );
+        assert_eq!(
+            answer(&resumed, "9 0 0 0 0 8 32768 0 0"),
+            "run 12 1 0 0 65 0 0 0 0 0 0 0 0 0 0 0 0 0 0 0 1 0 0 0 0 0 0 0 0 0 0 0 P M\n"
+        );
+    }
+
+    #[test]
+    fn registers_with_an_unfit_held_word_are_refused_in_their_turn() {
+        for held in ["0 1", "0 4095", "0 4096", "0 65535", "1 4096", "1 65535"] {
+            let registers = stopping(0, 1, 0, held);
+            for (rest, refusal) in [
+                ("65536 1 0 0 0 8 32767 0 0", 1),
+                ("65536 1 0 0 0 8 32768 0 0", 2),
+                ("0 1 0 0 0 8 32768 0 0", 3),
+                ("0 0 0 0 0 8 32768 0 0", 4),
+            ] {
+                assert_eq!(
+                    replayed(&format!("run {registers} {rest}\n")),
+                    format!("run {refusal} 0 0 0 {registers} P M\n")
+                );
+            }
+            for operation in ["1 0", "5 0", "20 0", "99 99"] {
+                assert_eq!(
+                    replayed(&format!("op {registers} {operation}\n")),
+                    format!("op 4 0 {registers}\n")
+                );
+            }
+        }
+        for held in ["2 0", "0 65536", "1 65536"] {
+            let registers = stopping(0, 1, 0, held);
+            assert_eq!(replayed(&format!("op {registers} 1 0\n")), "error 1\n");
         }
     }
 
@@ -729,7 +803,7 @@ mod tests {
         }
     }
 
-    /// The fresh registers with one of the 26 texts replaced.
+    /// The fresh registers with one of the 28 texts replaced.
     fn with_number(place: usize, text: &str) -> String {
         let mut numbers: Vec<&str> = FRESH.split(' ').collect();
         numbers[place] = text;
@@ -738,9 +812,9 @@ mod tests {
 
     #[test]
     fn each_register_has_its_width() {
-        let sixteen = [0, 1, 2, 3, 13, 22];
+        let sixteen = [0, 1, 2, 3, 13, 22, 26];
         let eight = [5, 6, 7];
-        for place in 0..25 {
+        for place in 0..27 {
             let greatest = if sixteen.contains(&place) {
                 65_535
             } else if eight.contains(&place) {
@@ -776,7 +850,7 @@ mod tests {
             ("2 0 0", false),
         ] {
             assert_eq!(
-                read_case(&with_number(25, motion)).is_some(),
+                read_case(&with_number(27, motion)).is_some(),
                 is_case,
                 "{motion}"
             );

@@ -71,10 +71,15 @@ const RESTORED: [u16; 8] = {
     restored
 };
 
-/// One control word and its effect.
+/// One control word, held or else fetched, and its effect.
 #[inline(always)]
-pub fn beat(now: &mut Display, registers: &mut Registers, lent: &mut Lent) -> Result<(), Ending> {
-    let word = lent.fetch(now.address)?;
+pub fn beat(
+    now: &mut Display,
+    registers: &mut Registers,
+    lent: &mut Lent,
+    held: Option<u32>,
+) -> Result<(), Ending> {
+    let word = lent.first_word(held, now.address)?;
     match word >> 9 {
         0 => {
             now.status = parameter(word, now.status);

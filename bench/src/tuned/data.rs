@@ -6,7 +6,7 @@ use super::beam::{self, Beam, Paper};
 use super::display::*;
 use super::lent::{address_after, Lent};
 
-/// One data word or two, and the moves of a line or of bytes.
+/// One data word or two, the first held or else fetched, and the moves of a line or of bytes.
 #[inline(always)]
 pub fn beats(
     now: &mut Display,
@@ -14,13 +14,14 @@ pub fn beats(
     lent: &Lent,
     paper: Paper,
     points: &mut [u32],
+    held: Option<u32>,
 ) -> Result<(), Ending> {
     let mode = now.mode();
     if mode == 5 || mode == 7 {
         registers.running = false;
         return Err(Ending::UnusableMode);
     }
-    let word = lent.fetch(now.address)?;
+    let word = lent.first_word(held, now.address)?;
     match mode {
         0 => {
             let second = lent.fetch(address_after(now.address, 1))?;

@@ -28,6 +28,7 @@ pub const INTENSITY: u32 = 0o7;
 pub const BLINK: u32 = 1 << 23;
 
 /// The registers that a beat may change.
+#[derive(Clone, Copy)]
 pub struct Display {
     pub address: u32,
     pub pointer: u32,

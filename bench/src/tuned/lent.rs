@@ -34,6 +34,14 @@ impl<'a> Lent<'a> {
         }
     }
 
+    /// The same memory through the same loan.
+    pub fn again(&mut self) -> Lent<'_> {
+        Lent {
+            words: self.words,
+            ..*self
+        }
+    }
+
     fn holds(range: (u32, u32), address: u32) -> bool {
         address.wrapping_sub(range.0) < range.1
     }
@@ -49,6 +57,15 @@ impl<'a> Lent<'a> {
             return Err(Ending::WordTooWide);
         }
         Ok(word)
+    }
+
+    /// The first word of a command: a held one is not fetched again.
+    #[inline(always)]
+    pub fn first_word(&self, held: Option<u32>, address: u32) -> Result<u32, Ending> {
+        match held {
+            Some(word) => Ok(word),
+            None => self.fetch(address),
+        }
     }
 
     /// Two words of a push, stored if both may be.

@@ -1,11 +1,12 @@
 //! A simulator of runs tuned for speed: the yardstick of the proved run.
 //!
-//! It takes and answers what `second::run` does, by the same rules of document 01, with all of a
-//! run's state in a few machine words:
+//! It takes and answers what `second::run` does, by the same rules of documents 01 and 02, with all
+//! of a run's state in a few machine words:
 //!
 //! - the beam is one number, so that a move is one addition and an edge one test (`beam.rs`);
 //! - pen, scale, mode and intensity are one number, laid out as a push stores them (`display.rs`);
 //! - what no beat changes (stop request, pen hold, conditions) is looked at once, not in each turn;
+//! - a held word is used before the loop of commands, which only fetches;
 //! - a line or a byte makes its moves in a loop of its own, with no division in it.
 
 mod beam;
@@ -75,13 +76,17 @@ fn turns(
         return Err(Ending::BudgetSpent);
     }
     if registers.stop_request {
+        // A second stop keeps the held word, and a first one that cannot fetch it is not made.
+        if !registers.word_is_held {
+            registers.hold(lent.fetch(now.address)? as u16);
+        }
         registers.stop_request = false;
         registers.external_stop_flag = true;
         registers.running = false;
         return Err(Ending::ExternalStop);
     }
-    // The first command beat ends hold, and nothing in a run turns it on again. Where no command
-    // beat is made, hold and pen stay as they are.
+    // The first command beat ends hold and uses a held word, and nothing in the rest of a run brings
+    // either back. Where no command beat is made, hold, pen and held word stay as they are.
     let (left, pen) = (now.progress.left, now.status & PEN);
     if registers.pen_hold {
         now.status |= PEN;
@@ -91,6 +96,7 @@ fn turns(
         now.status = now.status & !PEN | pen;
     } else {
         registers.pen_hold = false;
+        registers.drop_held_word();
     }
     Err(ending)
 }
@@ -104,21 +110,49 @@ fn commands(
     paper: Paper,
     points: &mut [u32],
 ) -> Result<Infallible, Ending> {
+    if let Some(word) = registers.held() {
+        let made;
+        (*now, made) = held_command(*now, registers, lent.again(), paper, points, word);
+        made?;
+    }
     while now.progress.left > 0 {
         if now.data {
-            data::beats(now, registers, lent, paper, points)?;
+            data::beats(now, registers, lent, paper, points, None)?;
         } else {
-            control::beat(now, registers, lent)?;
+            control::beat(now, registers, lent, None)?;
         }
     }
     Err(Ending::BudgetSpent)
+}
+
+/// A command with a held first word. It stands apart and takes copies, so that what the loop changes
+/// need not be in memory.
+#[cold]
+#[inline(never)]
+fn held_command(
+    now: Display,
+    registers: &mut Registers,
+    lent: Lent,
+    paper: Paper,
+    points: &mut [u32],
+    word: u16,
+) -> (Display, Result<(), Ending>) {
+    let (mut now, mut lent) = (now, lent);
+    let held = Some(u32::from(word));
+    let made = if now.data {
+        data::beats(&mut now, registers, &lent, paper, points, held)
+    } else {
+        control::beat(&mut now, registers, &mut lent, held)
+    };
+    (now, made)
 }
 
 #[cfg(test)]
 mod tests {
     use super::*;
     use second::generate::{next_case, Chance};
-    use second::replay::{Case, Outcome, RunCase};
+    use second::replay::{Case, GivenMemory, Outcome, RunCase};
+    use second::{LoanRange, State};
 
     type Run = fn(&mut Registers, &mut [u16], Loan, u32, &mut [u32]) -> Answer;
 
@@ -128,14 +162,66 @@ mod tests {
         })
     }
 
+    /// What the tuned simulator leaves, which is what the second one leaves.
+    fn same_outcome(case: &RunCase) -> Outcome {
+        let left = outcome(case, run);
+        assert_eq!(left, outcome(case, second::run), "{case:?}");
+        left
+    }
+
     #[test]
     fn it_answers_as_the_second_simulator() {
         let mut chance = Chance::new(7);
-        let mut runs = 0;
+        let (mut runs, mut stops, mut held) = (0, 0, 0);
         while runs < 50_000 {
             if let Case::Run(case) = next_case(&mut chance) {
-                assert_eq!(outcome(&case, run), outcome(&case, second::run), "{case:?}");
+                let left = same_outcome(&case);
                 runs += 1;
+                stops += u32::from(left.answer.ending == Ending::ExternalStop);
+                held += u32::from(case.registers.word_is_held);
+            }
+        }
+        assert!(stops > 2_000 && held > 10_000, "{stops} {held}");
+    }
+
+    /// Each word held in control state and in each mode, over a word that is not lent.
+    #[test]
+    fn it_uses_every_held_word_as_the_second_simulator() {
+        let data = (0..=7).map(|mode| (State::Data, mode));
+        for (state, mode) in data.chain([(State::Control, 0)]) {
+            for word in 0..=0o7777 {
+                let mut registers = Registers {
+                    display_address: 0o200,
+                    pushdown_pointer: 0o402,
+                    x: 500,
+                    y: 500,
+                    state,
+                    mode,
+                    pen_hold: true,
+                    running: true,
+                    ..Registers::fresh()
+                };
+                registers.hold(word);
+                same_outcome(&RunCase {
+                    registers,
+                    budget: 20,
+                    loan: Loan {
+                        file: LoanRange {
+                            low: 0o201,
+                            high: 0o210,
+                        },
+                        list: LoanRange {
+                            low: 0o400,
+                            high: 0o404,
+                        },
+                    },
+                    room: 20,
+                    given: GivenMemory {
+                        length: WORDS,
+                        default: 0o4321,
+                        pairs: vec![(0o400, 0o0123), (0o401, 0o0202)],
+                    },
+                });
             }
         }
     }

@@ -15,9 +15,10 @@
 extern "C" {
 #endif
 
-/* The places of a row of registers: 25 registers, the kind of motion, and the motion's numbers. Each place has its limits here; a number outside them is
-   refusal 4. Refused together, as 4 too, are only a motion with a state or a mode that it cannot have, and numbers of a motion that do not agree, as said with
-   them. Any other registers go together: a display may run with a flag on that stops it, and a stopped one may have a stop request. */
+/* The places of a row of registers: 27 registers, the kind of motion, and the motion's numbers. Each place has its limits here; a number outside them is
+   refusal 4. Refused together, as 4 too, are only a word where none is held, a motion with a state or a mode that it cannot have, and numbers of a motion that
+   do not agree, as said with them. Any other registers go together: a display may run with a flag on that stops it, a stopped one may have a stop request, and
+   a word may be held beside a motion. */
 enum eveglome_place {
     EVEGLOME_ADDRESS = 0,                 /* display address, up to 32,767 */
     EVEGLOME_POINTER = 1,                 /* pushdown pointer, up to 4,095 */
@@ -44,25 +45,27 @@ enum eveglome_place {
     EVEGLOME_CONDITIONS = 22,             /* up to 4,095: the 12 initial-condition bits, bit 0 the leftmost */
     EVEGLOME_RUNNING = 23,                /* 0 or 1 */
     EVEGLOME_STOP_REQUEST = 24,           /* 0 or 1 */
-    EVEGLOME_MOTION = 25,                 /* 0 nothing, 1 a line, 2 bytes; what its kind does not use is not looked at, and written 0 */
+    EVEGLOME_HELD = 25,                   /* 0 or 1; whether a word is held, as from an external stop to the next command */
+    EVEGLOME_HELD_WORD = 26,              /* the held word, up to 4,095; 0 if none is held */
+    EVEGLOME_MOTION = 27,                 /* 0 nothing, 1 a line, 2 bytes; what its kind does not use is not looked at, and written 0 */
 
     /* A line, only in data state and modes 2, 3, 4. */
-    EVEGLOME_LINE_MINUS_Y = 26,           /* 0 or 1 */
-    EVEGLOME_LINE_MINUS_X = 27,           /* 0 or 1 */
-    EVEGLOME_LINE_MAGNITUDE_Y = 28,       /* up to 1,023; not 0 if the other magnitude is */
-    EVEGLOME_LINE_MAGNITUDE_X = 29,       /* the same */
-    EVEGLOME_LINE_MOVES = 30,             /* 01's n: just the larger magnitude, so 1 to 1,023 */
-    EVEGLOME_LINE_DONE = 31,              /* 01's k: below n, so up to 1,022 */
-    EVEGLOME_LINE_LIT = 32,               /* 0 or 1 */
-    EVEGLOME_LINE_ESCAPE = 33,            /* 0 or 1 */
+    EVEGLOME_LINE_MINUS_Y = 28,           /* 0 or 1 */
+    EVEGLOME_LINE_MINUS_X = 29,           /* 0 or 1 */
+    EVEGLOME_LINE_MAGNITUDE_Y = 30,       /* up to 1,023; not 0 if the other magnitude is */
+    EVEGLOME_LINE_MAGNITUDE_X = 31,       /* the same */
+    EVEGLOME_LINE_MOVES = 32,             /* 01's n: just the larger magnitude, so 1 to 1,023 */
+    EVEGLOME_LINE_DONE = 33,              /* 01's k: below n, so up to 1,022 */
+    EVEGLOME_LINE_LIT = 34,               /* 0 or 1 */
+    EVEGLOME_LINE_ESCAPE = 35,            /* 0 or 1 */
 
     /* Bytes of an increment word, only in data state and mode 1. Bits 1 and 2 of a byte say its moves: 00 one, and the byte escapes; 01, 10, 11 one, two,
        three. */
-    EVEGLOME_BYTES_WORD = 26,             /* up to 4,095 */
-    EVEGLOME_BYTES_SIDE = 27,             /* 0 the left byte, 1 the right one, which only if the left byte does not escape */
-    EVEGLOME_BYTES_MOVES_LEFT = 28,       /* 1 to 3, and no more than the moves of that byte */
+    EVEGLOME_BYTES_WORD = 28,             /* up to 4,095 */
+    EVEGLOME_BYTES_SIDE = 29,             /* 0 the left byte, 1 the right one, which only if the left byte does not escape */
+    EVEGLOME_BYTES_MOVES_LEFT = 30,       /* 1 to 3, and no more than the moves of that byte */
 
-    EVEGLOME_ROW = 34                     /* how many places there are */
+    EVEGLOME_ROW = 36                     /* how many places there are */
 };
 
 /* The places of a loan: two half-open ranges, which may be empty or overlap. The file range may be fetched, the list range fetched and written. A range with
@@ -108,11 +111,12 @@ enum eveglome_ending {
     EVEGLOME_NOT_RUNNING = 10,            /* not running at entry */
     EVEGLOME_BUDGET_SPENT = 11,           /* still running */
     EVEGLOME_INTERNAL_STOP = 12,          /* stopped by a word */
-    EVEGLOME_EXTERNAL_STOP = 13,          /* stopped by a stop request */
+    EVEGLOME_EXTERNAL_STOP = 13,          /* stopped by a stop request. Unless a word is held already, the word at the display address is fetched and held; the
+                                             address stays */
     EVEGLOME_EDGE = 14,                   /* stopped by a move past an edge */
     EVEGLOME_UNUSABLE_MODE = 15,          /* stopped in data state and mode 5 or 7 */
-    EVEGLOME_FETCH_OUTSIDE_LOAN = 16,     /* still running, before a fetch outside both ranges */
-    EVEGLOME_WIDE_WORD = 17,              /* still running, before a word above 4,095 */
+    EVEGLOME_FETCH_OUTSIDE_LOAN = 16,     /* still running, before a fetch outside both ranges; if the fetch is a stop's, the request stays */
+    EVEGLOME_WIDE_WORD = 17,              /* still running, before a word above 4,095; if a stop would hold it, the request stays */
     EVEGLOME_POINTS_FULL = 18,            /* still running, before a point that has no room */
     EVEGLOME_WRITE_OUTSIDE_LOAN = 19,     /* still running, before a push's write outside the list range */
     EVEGLOME_TEXT_TOO_SHORT = 23,         /* the text list has fewer bytes than the listing */
@@ -124,14 +128,14 @@ enum eveglome_ending {
    count from 0 at the left. */
 enum eveglome_operation {
     EVEGLOME_START = 1,                   /* operand: an address up to 32,767. Runs from it in control state and mode 0; clears the flags that stop, stop
-                                             request, hold and motion */
+                                             request, pen hold, held word and motion */
     EVEGLOME_SET_POINTER = 2,             /* operand: the pushdown pointer, up to 4,095 */
     EVEGLOME_SET_CONDITIONS = 3,          /* operand: the 12 initial-condition bits, up to 4,095 */
-    EVEGLOME_RESUME = 4,                  /* if stopped, clears the flags that stop, and runs; if the pen flag was on and condition bit 2 is 1, pen enable goes
-                                             off, and hold goes on if bit 3 is 0 */
-    EVEGLOME_CLEAR = 5,                   /* stops in control state and mode 0; clears the flags that stop, stop request, hold, motion and the low 12 bits of
-                                             the address */
-    EVEGLOME_ASK_TO_STOP = 6,             /* if running, a stop request: a run ends by it as soon as no motion is left */
+    EVEGLOME_RESUME = 4,                  /* if stopped, clears the flags that stop, and runs; a held word stays for the next command. If the pen flag was on
+                                             and condition bit 2 is 1, pen enable goes off, and pen hold goes on if bit 3 is 0 */
+    EVEGLOME_CLEAR = 5,                   /* stops in control state and mode 0; clears the flags that stop, stop request, pen hold, held word, motion and the
+                                             low 12 bits of the address */
+    EVEGLOME_ASK_TO_STOP = 6,             /* if running, a stop request: a run ends by it as soon as no motion is left, and the next word is held */
     EVEGLOME_PEN_LIGHT = 7,               /* the pen sees light: pen sense on; if running and pen enable is on, pen flag on and stopped */
     EVEGLOME_PRESS_BUTTON = 8,            /* operand: a button, up to 11. Complements it and sets the hit flag of its bank */
     EVEGLOME_CLEAR_GROUP = 9,             /* operand: 0 for buttons 0 to 5, 1 for 6 to 11. Clears these buttons; the hit flags stay */
@@ -161,14 +165,15 @@ enum eveglome_operation {
 #define EVEGLOME_POINT_INTENSITY(point) ((unsigned)((point) >> 20 & 7))
 #define EVEGLOME_POINT_BLINK(point) ((unsigned)((point) >> 23 & 1))
 
-/* Writes fresh registers: all zero, control state, not running, no motion. */
+/* Writes fresh registers: all zero, control state, not running, no word held, no motion. */
 void eveglome_fresh(uint16_t registers[EVEGLOME_ROW]);
 
 /* Makes an eveglome_operation. Refused as 4, 5 or 6, in this order. */
 void eveglome_operate(uint16_t registers[EVEGLOME_ROW], uint32_t operation, uint32_t operand, uint32_t answer[EVEGLOME_ANSWER]);
 
 /* Runs the display for at most `budget` beats, up to 65,535. The points that it lights stand in the first entries of `points`, as many as it answers; the rest
-   stays. Refused as 1, 2, 3 or 4, in this order. */
+   stays. Where a word is held, the next command uses it and does not fetch the word at its address; once that command is made, none is held. Second words are
+   always fetched. Refused as 1, 2, 3 or 4, in this order. */
 void eveglome_run(uint16_t registers[EVEGLOME_ROW], const uint16_t loan[EVEGLOME_LOAN], uint16_t *memory, size_t memory_length, uint32_t *points,
                   size_t points_length, uint32_t budget, uint32_t answer[EVEGLOME_ANSWER]);
 

@@ -206,7 +206,7 @@ extern "C" {
     );
 }
 
-/// Fresh registers: all zero, control state, not running, no motion.
+/// Fresh registers: all zero, control state, not running, no word held, no motion.
 pub fn fresh() -> Row {
     let mut row = [0; place::ROW];
     // SAFETY: the call is proved to write the row and nothing else.
@@ -225,7 +225,9 @@ pub fn operate(row: &mut Row, operation: u32, operand: u32) -> Answer {
 
 /// Runs the display for at most `budget` beats, up to 65,535. The points that it lights stand in
 /// the first entries of `points`, as many as it answers; the rest stays. A memory has [`MEMORY`]
-/// words, each up to 4,095. Refused as 1, 2, 3 or 4, in this order.
+/// words, each up to 4,095. Where a word is held, the next command uses it and does not fetch the
+/// word at its address; once that command is made, none is held. Second words are always fetched.
+/// Refused as 1, 2, 3 or 4, in this order.
 pub fn run(
     row: &mut Row,
     loan: Loan,

@@ -23,13 +23,14 @@ macro_rules! names {
 }
 
 names! {
-    /// The places of a row of registers: 25 registers, the kind of motion, and the motion's
+    /// The places of a row of registers: 27 registers, the kind of motion, and the motion's
     /// numbers.
     ///
     /// Each place has its limits here; a number outside them is refusal 4. Refused together, as 4
-    /// too, are only a motion with a state or a mode that it cannot have, and numbers of a motion
-    /// that do not agree, as said with them. Any other registers go together: a display may run
-    /// with a flag on that stops it, and a stopped one may have a stop request.
+    /// too, are only a word where none is held, a motion with a state or a mode that it cannot
+    /// have, and numbers of a motion that do not agree, as said with them. Any other registers go
+    /// together: a display may run with a flag on that stops it, a stopped one may have a stop
+    /// request, and a word may be held beside a motion.
     place: usize {
         /// The display address, up to 32,767.
         ADDRESS = 0,
@@ -81,35 +82,39 @@ names! {
         RUNNING = 23,
         /// 0 or 1.
         STOP_REQUEST = 24,
+        /// 0 or 1; whether a word is held, as from an external stop to the next command.
+        HELD = 25,
+        /// The held word, up to 4,095; 0 if none is held.
+        HELD_WORD = 26,
         /// 0 nothing; 1 a line, only in data state and modes 2, 3, 4; 2 bytes of an increment
         /// word, only in data state and mode 1. What its kind does not use is not looked at, and
         /// written 0.
-        MOTION = 25,
+        MOTION = 27,
         /// 0 or 1.
-        LINE_MINUS_Y = 26,
+        LINE_MINUS_Y = 28,
         /// 0 or 1.
-        LINE_MINUS_X = 27,
+        LINE_MINUS_X = 29,
         /// Up to 1,023; not 0 if the other magnitude is.
-        LINE_MAGNITUDE_Y = 28,
+        LINE_MAGNITUDE_Y = 30,
         /// Up to 1,023; not 0 if the other magnitude is.
-        LINE_MAGNITUDE_X = 29,
+        LINE_MAGNITUDE_X = 31,
         /// 01's n: just the larger magnitude, so 1 to 1,023.
-        LINE_MOVES = 30,
+        LINE_MOVES = 32,
         /// 01's k: below n, so up to 1,022.
-        LINE_DONE = 31,
+        LINE_DONE = 33,
         /// 0 or 1.
-        LINE_LIT = 32,
+        LINE_LIT = 34,
         /// 0 or 1.
-        LINE_ESCAPE = 33,
+        LINE_ESCAPE = 35,
         /// Up to 4,095. Bits 1 and 2 of each of its bytes say the byte's moves: 00 one, and the
         /// byte escapes; 01, 10, 11 one, two, three.
-        BYTES_WORD = 26,
+        BYTES_WORD = 28,
         /// 0 the left byte, 1 the right one, which only if the left byte does not escape.
-        BYTES_SIDE = 27,
+        BYTES_SIDE = 29,
         /// 1 to 3, and no more than the moves of that byte.
-        BYTES_MOVES_LEFT = 28,
+        BYTES_MOVES_LEFT = 30,
         /// How many places there are.
-        ROW = 34,
+        ROW = 36,
     }
 }
 
@@ -174,15 +179,17 @@ names! {
         BUDGET_SPENT = 11,
         /// Stopped by a word.
         INTERNAL_STOP = 12,
-        /// Stopped by a stop request.
+        /// Stopped by a stop request. Unless a word is held already, the word at the display
+        /// address is fetched and held; the address stays.
         EXTERNAL_STOP = 13,
         /// Stopped by a move past an edge.
         EDGE = 14,
         /// Stopped in data state and mode 5 or 7.
         UNUSABLE_MODE = 15,
-        /// Still running, before a fetch outside both ranges.
+        /// Still running, before a fetch outside both ranges; if the fetch is a stop's, the request
+        /// stays.
         FETCH_OUTSIDE_LOAN = 16,
-        /// Still running, before a word above 4,095.
+        /// Still running, before a word above 4,095; if a stop would hold it, the request stays.
         WIDE_WORD = 17,
         /// Still running, before a point that has no room.
         POINTS_FULL = 18,
@@ -204,19 +211,21 @@ names! {
     /// edges and the pen. Bits of a word count from 0 at the left.
     operation: u32 {
         /// Operand: an address up to 32,767. Runs from it in control state and mode 0; clears the
-        /// flags that stop, stop request, hold and motion.
+        /// flags that stop, stop request, pen hold, held word and motion.
         START = 1,
         /// Operand: the pushdown pointer, up to 4,095.
         SET_POINTER = 2,
         /// Operand: the 12 initial-condition bits, up to 4,095.
         SET_CONDITIONS = 3,
-        /// If stopped, clears the flags that stop, and runs; if the pen flag was on and condition
-        /// bit 2 is 1, pen enable goes off, and hold goes on if bit 3 is 0.
+        /// If stopped, clears the flags that stop, and runs; a held word stays for the next
+        /// command. If the pen flag was on and condition bit 2 is 1, pen enable goes off, and pen
+        /// hold goes on if bit 3 is 0.
         RESUME = 4,
-        /// Stops in control state and mode 0; clears the flags that stop, stop request, hold,
-        /// motion and the low 12 bits of the address.
+        /// Stops in control state and mode 0; clears the flags that stop, stop request, pen hold,
+        /// held word, motion and the low 12 bits of the address.
         CLEAR = 5,
-        /// If running, a stop request: a run ends by it as soon as no motion is left.
+        /// If running, a stop request: a run ends by it as soon as no motion is left, and the next
+        /// word is held.
         ASK_TO_STOP = 6,
         /// The pen sees light: pen sense on; if running and pen enable is on, pen flag on and
         /// stopped.

@@ -37,6 +37,31 @@ fn with(place: usize, number: u16) -> Row {
     with_all(&[(place, number)])
 }
 
+/// A word held at address 200o, on a stopped display.
+fn holding(word: u16) -> Row {
+    with_all(&[
+        (place::ADDRESS, 0o200),
+        (place::HELD, 1),
+        (place::HELD_WORD, word),
+    ])
+}
+
+/// A display that runs from address 200o and is asked to stop.
+fn asked_to_stop() -> Row {
+    let mut row = fresh();
+    assert_eq!(operate(&mut row, operation::START, 0o200), done(0));
+    assert_eq!(operate(&mut row, operation::ASK_TO_STOP, 0), done(0));
+    row
+}
+
+/// No word lent.
+const NOTHING: Loan = Loan {
+    file_low: 0,
+    file_high: 0,
+    list_low: 0,
+    list_high: 0,
+};
+
 #[test]
 fn fresh_registers_are_all_zero() {
     assert_eq!(fresh(), Row([0; place::ROW]));
@@ -93,7 +118,8 @@ fn operations_are_refused_in_the_order_4_5_6() {
     }
 }
 
-/// A flag of 2, a mode of 256, a third kind of motion: no register can hold them.
+/// A flag of 2, a mode of 256, a word where none is held, a held word of 13 bits, a third kind of
+/// motion: no register can hold them.
 #[test]
 fn a_row_that_does_not_fit_is_refused_as_4() {
     use place::*;
@@ -128,11 +154,14 @@ fn a_row_that_does_not_fit_is_refused_as_4() {
         MANUAL_INTERRUPT_FLAG,
         RUNNING,
         STOP_REQUEST,
+        HELD,
     ];
     let line_flags = [LINE_MINUS_Y, LINE_MINUS_X, LINE_LIT, LINE_ESCAPE];
     for (row, places, number) in [
         (fresh(), &flags[..], 2),
         (fresh(), &[MODE, SCALE, INTENSITY], 256),
+        (fresh(), &[HELD_WORD], 1),
+        (with(HELD, 1), &[HELD_WORD], 4_096),
         (fresh(), &[MOTION], 3),
         (line, &line_flags, 2),
         (bytes, &[BYTES_SIDE], 2),
@@ -209,6 +238,110 @@ fn a_run_tells_which_word_the_fence_stopped() {
     };
     assert_eq!(answer, stopped);
     assert_eq!((row, memory), (given, before));
+}
+
+/// The stop holds word 0500, which sets scale 1, and the address stays on it. Then the class
+/// changes the word to 0600, which sets scale 2, and lends nothing: the word runs as it was.
+#[test]
+fn a_word_changed_during_a_stop_runs_as_it_was() {
+    let mut memory = vec![0; MEMORY];
+    memory[0o200] = 0o500;
+    let mut row = asked_to_stop();
+    let answer = run(&mut row, Loan::ALL, &mut memory, &mut [], 5);
+    assert_eq!(answer, just(ending::EXTERNAL_STOP));
+    let mut stopped = holding(0o500);
+    stopped.0[place::EXTERNAL_STOP_FLAG] = 1;
+    assert_eq!(row, stopped);
+    assert_eq!(operate(&mut row, operation::READ_ADDRESS, 0), done(0o200));
+
+    memory[0o200] = 0o600;
+    assert_eq!(operate(&mut row, operation::RESUME, 0), done(0));
+    let answer = run(&mut row, NOTHING, &mut memory, &mut [], 1);
+    let one_beat = Answer {
+        beats: 1,
+        ..just(ending::BUDGET_SPENT)
+    };
+    assert_eq!(answer, one_beat);
+    let used = with_all(&[
+        (place::ADDRESS, 0o201),
+        (place::SCALE, 1),
+        (place::RUNNING, 1),
+    ]);
+    assert_eq!(row, used);
+}
+
+/// The next word is not lent, then lent and too wide: nothing changes, and the request stays. Once
+/// the word can be fetched, it is held.
+#[test]
+fn a_stop_that_cannot_fetch_is_not_made() {
+    let mut memory = vec![4_096; MEMORY];
+    let outside = Answer {
+        address: 0o200,
+        ..just(ending::FETCH_OUTSIDE_LOAN)
+    };
+    let mut row = asked_to_stop();
+    for (loan, answer) in [(NOTHING, outside), (Loan::ALL, just(ending::WIDE_WORD))] {
+        assert_eq!(run(&mut row, loan, &mut memory, &mut [], 5), answer);
+        assert_eq!(row, asked_to_stop());
+    }
+    memory[0o200] = 4_095;
+    let answer = run(&mut row, Loan::ALL, &mut memory, &mut [], 5);
+    assert_eq!(answer, just(ending::EXTERNAL_STOP));
+    assert_eq!((row.0[place::HELD], row.0[place::HELD_WORD]), (1, 4_095));
+}
+
+/// Of a held jump the second word is fetched. While that is not lent, the jump is not made, and the
+/// word stays held; the jump's own word need not be lent.
+#[test]
+fn second_words_are_fetched() {
+    let mut memory = vec![0; MEMORY];
+    memory[0o200..0o202].copy_from_slice(&[0o1400, 0o300]);
+    let just_one = |word| Loan {
+        file_low: word,
+        file_high: word + 1,
+        ..NOTHING
+    };
+    let mut row = holding(0o2000);
+    operate(&mut row, operation::RESUME, 0);
+    let given = row;
+    let answer = run(&mut row, just_one(0o200), &mut memory, &mut [], 1);
+    let outside = Answer {
+        address: 0o201,
+        ..just(ending::FETCH_OUTSIDE_LOAN)
+    };
+    assert_eq!(answer, outside);
+    assert_eq!(row, given);
+
+    let answer = run(&mut row, just_one(0o201), &mut memory, &mut [], 1);
+    assert_eq!((answer.ending, answer.beats), (ending::BUDGET_SPENT, 1));
+    let jumped = with_all(&[(place::ADDRESS, 0o300), (place::RUNNING, 1)]);
+    assert_eq!(row, jumped);
+}
+
+/// Nothing is lent, and the word is too wide by then.
+#[test]
+fn a_second_stop_keeps_the_held_word() {
+    let mut row = holding(0o500);
+    operate(&mut row, operation::RESUME, 0);
+    operate(&mut row, operation::ASK_TO_STOP, 0);
+    let answer = run(&mut row, NOTHING, &mut vec![4_096; MEMORY], &mut [], 5);
+    assert_eq!(answer, just(ending::EXTERNAL_STOP));
+    let mut stopped = holding(0o500);
+    stopped.0[place::EXTERNAL_STOP_FLAG] = 1;
+    assert_eq!(row, stopped);
+}
+
+#[test]
+fn start_and_clear_drop_the_held_word() {
+    let started = with_all(&[(place::ADDRESS, 0o300), (place::RUNNING, 1)]);
+    for (operation, operand, left) in [
+        (operation::START, 0o300, started),
+        (operation::CLEAR, 0, fresh()),
+    ] {
+        let mut row = holding(0o500);
+        assert_eq!(operate(&mut row, operation, operand), done(0));
+        assert_eq!(row, left);
+    }
 }
 
 /// Each call has every fault from its own number on, so that the order is seen too.

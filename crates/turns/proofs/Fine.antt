@@ -58,7 +58,7 @@ idle-good : (b : Base) → GoodBase b → GoodBeat (idleBeat b)
 unfolding idleBeat commandBeat
 idle-good b g =
     let begun = ready-good b g in
-    pick-case GoodBeat (b .request) (λ _. taking-good (b .address) _ (b .held) (g .held) (λ _ h. h))
+    pick-case GoodBeat _ (λ _. taking-good (b .address) _ (b .held) (g .held) (λ _ h. h))
     (λ _. pick-case GoodBeat (unusable b) (λ _. tt)
     (λ u. taking-good (b .address) _ (b .held) (g .held)
     (λ w h. pick-case GoodBeat (b .datastate) (λ d. data-good (ready b) w begun d (ready-usable b u) h) (λ _. control-good (ready b) w begun))))

@@ -30,7 +30,7 @@ data-inside b w =
 idle-inside : (b : Base) → GoodBase b → Inside (idleBeat b)
 unfolding idleBeat commandBeat
 idle-inside b g =
-    pick-case Inside (b .request) (λ _. taking-inside (b .address) _ (b .held) (g .address) (λ _. tt))
+    pick-case Inside _ (λ _. taking-inside (b .address) _ (b .held) (g .address) (λ _. tt))
     (λ _. pick-case Inside (unusable b) (λ _. tt)
     (λ _. taking-inside (b .address) _ (b .held) (g .address)
     (λ w. pick-case Inside (b .datastate) (λ _. data-inside (ready b) w) (λ _. control-inside (ready b) w))))

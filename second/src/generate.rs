@@ -1221,17 +1221,26 @@ mod tests {
         }
     }
 
+    /// What a run leaves, a part of its budget, and what the run leaves with that alone. None where
+    /// it is refused or has no beat.
+    fn parted(case: &RunCase, chance: &mut Chance) -> Option<(Outcome, u32, Outcome)> {
+        let whole = outcome(case, case.memory(), case.loan, case.budget);
+        if whole.answer.ending.number() < 10 || case.budget == 0 {
+            return None;
+        }
+        let first_part = u32::from(chance.between(0, case.budget as u16));
+        let first = outcome(case, case.memory(), case.loan, first_part);
+        Some((whole, first_part, first))
+    }
+
     /// A budget spent in two parts is the budget spent in one.
     #[test]
     fn a_break_in_a_run_does_not_show() {
         let mut chance = Chance::new(55);
         for case in runs(5, 2_000) {
-            let whole = outcome(&case, case.memory(), case.loan, case.budget);
-            if whole.answer.ending.number() < 10 || case.budget == 0 {
+            let Some((whole, first_part, first)) = parted(&case, &mut chance) else {
                 continue;
-            }
-            let first_part = u32::from(chance.between(0, case.budget as u16));
-            let first = outcome(&case, case.memory(), case.loan, first_part);
+            };
             if first.answer.ending != Ending::BudgetSpent {
                 assert_eq!(first.answer, whole.answer);
                 continue;
@@ -1284,12 +1293,9 @@ mod tests {
             // Resume would clear the flags that stop.
             case.registers.clear_stopping_flags();
             case.registers.stop_request = false;
-            let whole = outcome(&case, case.memory(), case.loan, case.budget);
-            if whole.answer.ending.number() < 10 || case.budget == 0 {
+            let Some((whole, first_part, first)) = parted(&case, &mut chance) else {
                 continue;
-            }
-            let first_part = u32::from(chance.between(0, case.budget as u16));
-            let first = outcome(&case, case.memory(), case.loan, first_part);
+            };
             if first.answer.ending != Ending::BudgetSpent {
                 continue;
             }

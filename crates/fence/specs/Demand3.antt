@@ -25,7 +25,8 @@ use Rattle.calls.specs.Calls.{entered, call, numbered}
 abbrev pub Agree : Loan → List ℕ → List ℕ → Type 0
 Agree l m n = (length m ≡ length n) × ((a : DisplayAddress) → mayFetch l a ≡ true → getD m (a .0) 0 ≡ getD n (a .0) 0)
 
--- "the same registers, ending, beats, points and lent words", "and the address is among the things that agree" (02, No. 1)
+-- "the same registers, ending, beats, points and lent words", "and the address is among the things that agree" (02, No. 1); "the held word is a register" (02,
+-- No. 4)
 pub record Same (l : Loan) (f g : Run) : Type 0 where
   pub registers : f .registers ≡ g .registers
   pub ending : f .ending ≡ g .ending
@@ -55,7 +56,8 @@ Outside l (Wide a) = ⊥
 Outside l Full = ⊥
 
 -- of the room, registers and memory that are left at an ending: "its next beat's first touch that can't be made is one the loan doesn't allow", and the
--- ending bears that touch. So the address that is answered is of a word that the loan does not let be fetched, with 16, or written, with 19
+-- ending bears that touch. So the address that is answered is of a word that the loan does not let be fetched, with 16, or written, with 19. The turn that would
+-- stop the display fetches its word: "the stop's fetch counts as the next beat's touch" (02, No. 4)
 pub record AtFence (l : Loan) (room : ℕ) (r : Registers) (m : List ℕ) (e : Ending) : Type 0 where
   pub why : Why
   pub ending : e ≡ Failed why

@@ -2,7 +2,6 @@
 // stop held, and that it is the one which runs.
 mod shown;
 
-ghost use mathlib.Core.Path.{_≡_};
 use endings::Ending;
 use libc::STDERR_FILENO;
 use loan::Loan;

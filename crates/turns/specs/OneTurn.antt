@@ -1,5 +1,5 @@
--- Section 'One turn of a run' of 01, with No. 4 of 02: the beat that the registers make, and tests 2 to 5 of a turn. How a beat's touches are made is in touches, the beats
--- of control words are in control_beats. Assumes nothing.
+-- Section 'One turn of a run' of 01, with No. 4 of 02: the beat that the registers make, and tests 2 to 5 of a turn. How a beat's touches are made is in
+-- touches, the beats of control words are in control_beats. Assumes nothing.
 use Prim.Native.Nat.{ℕ}
 use mathlib.Core.Bool.{Bool, _&&_, _||_}
 use mathlib.Core.List.{List}

@@ -35,7 +35,7 @@ module _ (c : tie.Then1 Inv-loop μ-loop) where
       (head .loop .left) (head .loop .base) (head .loop .memory)
   turning = record { far = head .loop .inv; on = c .if1 .taken }
 
--- behind the fetch
+-- behind the first word
 abbrev fetching : tie.After-taken Inv-loop μ-loop → tie.Then1 Inv-loop μ-loop
 fetching c = c .before .before
 

@@ -70,7 +70,7 @@ fn tell(ran: Ran, changed: u64) {
 // Starts a fresh display at the exercise, with the pushdown list where the class's begins, and runs it with a loan.
 fn tried(lent: Loan) {
     let mut memory = laid_out();
-    let mut points = [0u32; 16];
+    let mut points = [0u64; 16];
     let started = host::operate(registers::fresh(), 1, 512).registers;
     let ready = host::operate(started, 2, LIST as u32).registers;
     let ran = calls::call(ready, lent, &mut memory, &mut points, 70);

@@ -36,7 +36,7 @@ pub fn started(a: Asked, s: Source) -> Registers
 }
 
 // The run.
-pub fn run(a: Asked, s: Source, memory: &mut [u16], points: &mut [u32]) -> Ran
+pub fn run(a: Asked, s: Source, memory: &mut [u16], points: &mut [u64]) -> Ran
     ensures { λ t. ⌜ leaves t (now (memory .exit)) (now (points .exit)) ≡ run a s (now (memory .entry)) (now (points .entry)) ⌝ }
 {
     calls::call(started(a, s), lent(a, s), memory, points, a.limits.budget)

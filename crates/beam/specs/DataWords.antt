@@ -4,6 +4,7 @@ use Prim.Native.Nat.{ℕ}
 use mathlib.Core.Bool.{Bool, not, _&&_, _||_}
 use mathlib.Core.List.{List, [], _∷_}
 use Rattle.words.specs.Words.{bit, bits, pick}
+use Rattle.addresses.specs.declared.DisplayAddress.{DisplayAddress}
 use Rattle.paper.specs.declared.Reached.{Reached}
 use Rattle.paper.specs.DataWords.{sectorZero, point}
 use Rattle.registers.specs.declared.Base.{Base}
@@ -22,10 +23,13 @@ fieldX b = bits (b .conditions) 6 7
 abbrev pub fieldY : Base → ℕ
 fieldY b = bits (b .conditions) 4 5
 
--- a point lights if the word or byte asks it or condition bit 8 is set, the beam after the beat is in sector 0, and the beat violated nothing (H)
-unfoldable pub litAt : Base → ℕ → ℕ → Bool → Bool → Lit
-litAt b x y asked violated =
-    pick ((asked || bit (b .conditions) 8) && sectorZero x y && not violated) (Point (point x y (b .intensity) (b .blink))) Dark
+-- a point lights if the word or byte asks it or condition bit 8 is set, the beam after the beat is in sector 0, and the beat violated nothing (H); it tells the
+-- address of the last word of the command that lit it (02, No. 5)
+unfoldable pub litAt : Base → DisplayAddress → ℕ → ℕ → Bool → Bool → Lit
+litAt b lastword x y asked violated =
+    pick ((asked || bit (b .conditions) 8) && sectorZero x y && not violated)
+    (Point (point x y (b .intensity) (b .blink) (lastword .0)))
+    Dark
 
 -- a beat lights at most one point
 abbrev pub points : Lit → List ℕ
@@ -49,13 +53,13 @@ escaped b escape = withDatastate b (b .datastate && not escape)
 
 -- the beam arrives: unless condition bit 9 is set, a violation sets that axis's flag and stops; the move stands, wrapped; an escape takes effect, an edge
 -- stop included
-unfoldable pub arrived : Base → Motion → Reached → Reached → Bool → Bool → Outcome
-arrived b m x y asked escape =
+unfoldable pub arrived : Base → Motion → DisplayAddress → Reached → Reached → Bool → Bool → Outcome
+arrived b m lastword x y asked escape =
     let violated = x .violated || y .violated in
     let edge = violated && not (bit (b .conditions) 9) in
     record {
       registers = record { base = escaped (edgeStopped (beamAt b (x .value) (y .value)) x y edge) escape; motion = m };
-      lit = litAt b (x .value) (y .value) asked violated;
+      lit = litAt b lastword (x .value) (y .value) asked violated;
       stop = pick edge Edge None;
     }
 

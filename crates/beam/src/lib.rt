@@ -4,6 +4,7 @@ ghost use Rattle.words.specs.Words.{pick};
 ghost use Rattle.beam.specs.DataWords.{fieldX, fieldY, litAt, arrived, stillEnd};
 ghost use Rattle.beam.specs.Setters.{beamSet};
 ghost use Rattle.beam.specs.declared.Stop.the-variants.{None, Edge};
+use addresses::DisplayAddress;
 use paper::Reached;
 use registers::Base;
 use registers::Motion;
@@ -12,7 +13,7 @@ use registers::Registers;
 // The point that a beat lights, as an entry of the point list.
 pub enum Lit {
     Dark,
-    Point(u32),
+    Point(u64),
 }
 
 // Whether a beat stops the display, and by what.
@@ -64,14 +65,14 @@ pub fn field_y(b: Base) -> u16
     words::bits(b.conditions, 4, 5)
 }
 
-// The point that a beat lights where the beam arrives.
-pub fn lit_at(b: Base, x: u16, y: u16, asked: bool, violated: bool) -> Lit
-    ensures { λ r. ⌜ r ≡ litAt b x y asked violated ⌝ }
+// The point that a beat lights where the beam arrives, with the address of its command's last word.
+pub fn lit_at(b: Base, lastword: DisplayAddress, x: u16, y: u16, asked: bool, violated: bool) -> Lit
+    ensures { λ r. ⌜ r ≡ litAt b lastword x y asked violated ⌝ }
 {
     let all = words::bit(b.conditions, 8);
     let screen = paper::sector_zero(x, y);
     if (asked | all) & screen & !violated {
-        Lit::Point(paper::point(x, y, b.intensity, b.blink))
+        Lit::Point(paper::point(x, y, b.intensity, b.blink, lastword.number()))
     } else {
         Lit::Dark
     }
@@ -87,12 +88,13 @@ fn edge_if(on: bool) -> Stop
 pub fn arrived(
     b: Base,
     motion: Motion,
+    lastword: DisplayAddress,
     x: Reached,
     y: Reached,
     asked: bool,
     escape: bool,
 ) -> Outcome
-    ensures { λ r. ⌜ r ≡ arrived b motion x y asked escape ⌝ }
+    ensures { λ r. ⌜ r ≡ arrived b motion lastword x y asked escape ⌝ }
 {
     let violated = x.violated | y.violated;
     let edge = violated & !words::bit(b.conditions, 9);
@@ -105,7 +107,7 @@ pub fn arrived(
         b.vertical | edge & y.violated,
         b.running & !edge,
     );
-    let lit = lit_at(b, x.value, y.value, asked, violated);
+    let lit = lit_at(b, lastword, x.value, y.value, asked, violated);
     let stop = edge_if(edge);
     let registers = Registers { base, motion };
     Outcome {

@@ -30,8 +30,8 @@ module _ (l : Loan) where
   onward-good go ih room r g m (Does c) h = by (halted (c .stop))
     where
       by : (s : Halt) → Good (follow go room m c s .registers)
-      by Goes = ih (room - length (points (c .lit))) (c .registers) (h .good) (store (c .stores) m)
-      by (Ends ending) = h .good
+      by Goes = ih (room - length (points (c .lit))) (c .registers) (h .good .registers) (store (c .stores) m)
+      by (Ends ending) = h .good .registers
 
   run-good : (k room : ℕ) (r : Registers) → Good r → (m : List ℕ) → Good (run k l room r m .registers)
   unfolding run

@@ -63,7 +63,7 @@ module _ (l : Loan) where
   onward-small go ih room r m (Does c) g h = by (halted (c .stop)) (halted-small (c .stop))
     where
       by : (s : Halt) → SmallHalt s → Small (follow go room m c s .ending)
-      by Goes q = ih (room - length (points (c .lit))) (c .registers) (g .good) (store (c .stores) m)
+      by Goes q = ih (room - length (points (c .lit))) (c .registers) (g .good .registers) (store (c .stores) m)
       by (Ends ending) q = q
 
   run-small : (k room : ℕ) (r : Registers) → Good r → (m : List ℕ) → Small (run k l room r m .ending)

@@ -4,8 +4,9 @@ use mathlib.Core.Path.{_≡_}
 use mathlib.Core.Bool.{true}
 use mathlib.Core.List.{List}
 use lib.Dec.{eqb, leb}
-use lib.ListN.{length}
+use lib.ListN.{length, getD}
 use Rattle.words.specs.Words.{pick}
+use Rattle.paper.specs.Entry.{Entry}
 use Rattle.registers.specs.declared.Registers.{Registers}
 use Rattle.registers.specs.Registers.{inRange}
 use Rattle.loan.specs.declared.Loan.{Loan}
@@ -53,3 +54,11 @@ numbered (Ended ending beats points) = endedNumbers (endingNumber ending) beats 
 abbrev pub AddressInRange : Type 0
 AddressInRange =
     (budget : ℕ) (l : Loan) (r : Registers) (m ps : List ℕ) → numbered (call budget l r m ps .ran .answer) .address < 32768
+
+-- every entry that a run makes is of a point on the screen, of intensity 0 to 7, and tells a 15-bit address (02, No. 5); so it is taken apart again as it was
+-- put together (points' Points.antt)
+abbrev pub MakesEntries : Type 0
+MakesEntries =
+    (budget : ℕ) (l : Loan) (r : Registers) (m ps : List ℕ) (i : ℕ) →
+    let t = call budget l r m ps in
+    i < numbered (t .ran .answer) .points → Entry (getD (t .points) i 0)

@@ -3,7 +3,7 @@ ghost use mathlib.Core.Path.{_≡_};
 ghost use lib.ListN.{length};
 ghost use Rattle.registers.specs.Good.{Good};
 ghost use Rattle.runs.specs.Runs.{left, leaves};
-ghost use Rattle.calls.specs.Calls.{refusedRun, entered, call, numbered, KeepsInRange, AddressInRange};
+ghost use Rattle.calls.specs.Calls.{refusedRun, entered, call, numbered, KeepsInRange, AddressInRange, MakesEntries};
 use answers::Numbers;
 use endings::Ending;
 use loan::Loan;
@@ -12,7 +12,7 @@ use runs::Answer;
 use runs::Ran;
 
 // An accepted call: a display that is not running makes no turn.
-fn enter(r: Registers, l: Loan, memory: &mut [u16], points: &mut [u32], budget: u32) -> Ran
+fn enter(r: Registers, l: Loan, memory: &mut [u16], points: &mut [u64], budget: u32) -> Ran
     requires { ⌜ Good r ⌝ }
     ensures { λ t. ⌜ leaves t (now (memory .exit)) (now (points .exit)) ≡ left (entered budget l (length (now (points .entry))) r (now (memory .entry))) (now (points .entry)) ⌝ }
 {
@@ -36,7 +36,7 @@ fn refused(r: Registers, number: u8) -> Ran
 }
 
 // A run: refused by the first of 1, 2, 3, 4 that applies, with nothing stored, or run.
-pub fn call(r: Registers, l: Loan, memory: &mut [u16], points: &mut [u32], budget: u32) -> Ran
+pub fn call(r: Registers, l: Loan, memory: &mut [u16], points: &mut [u64], budget: u32) -> Ran
     ensures { λ t. ⌜ leaves t (now (memory .exit)) (now (points .exit)) ≡ call budget l r (now (memory .entry)) (now (points .entry)) ⌝ }
 {
     if memory.len() == 32768 {
@@ -79,4 +79,9 @@ pub fn keeps_in_range()
 // The address that a run answers has 15 bits. It does nothing, like the theorem above.
 pub fn address_in_range()
     ensures { λ _. ⌜ AddressInRange ⌝ }
+{}
+
+// Every entry that a run makes is of a point on the screen and tells a 15-bit address. It does nothing, like the theorems above.
+pub fn makes_entries()
+    ensures { λ _. ⌜ MakesEntries ⌝ }
 {}

@@ -6,14 +6,20 @@ use lib.Dec.{eqb}
 use Rattle.words.specs.Words.{bit, bits}
 use Rattle.words.proofs.Laws.{pick-case}
 use Rattle.registers.specs.declared.Base.{Base}
-use Rattle.registers.specs.Good.{GoodBase, Good}
+use Rattle.registers.specs.declared.Motion.the-variants.{Nothing}
+use Rattle.registers.specs.Good.{GoodBase}
 use Rattle.registers.proofs.Setting.{held-set}
 use Rattle.control.proofs.Kept.{parameter-good, mode-good, jump-good, push-good, pop-good}
 use Rattle.skips.proofs.Kept.{skipping-good, flag-skip-good, count-good, sync-good}
 use Rattle.button_skips.proofs.Kept.{button-skip-good, compare-good}
-use Rattle.touches.specs.declared.Act.{Act}
-use Rattle.touches.proofs.Kept.{GoodBeat}
+use Rattle.beam.specs.declared.Lit.the-variants.{Dark}
+use Rattle.beam.proofs.Kept.{GoodLeft}
+use Rattle.touches.proofs.Kept.{GoodAct, GoodBeat}
 use Rattle.control_beats.specs.ControlWords.{ready, pushAct, jumpBeat, popBeat, miscellaneous, controlBeat}
+
+-- a control word lights nothing and begins no motion
+dark : {b : Base} → GoodBase b → GoodLeft (record { base = b; motion = Nothing }) Dark
+dark g = record { registers = record { base = g; motion = tt }; lit = tt }
 
 pub ready-good : (b : Base) → GoodBase b → GoodBase (ready b)
 ready-good b g = held-set g tt
@@ -22,12 +28,11 @@ module _ (b : Base) (w : ℕ) (g : GoodBase b) where
   jump-beat-good : GoodBeat (jumpBeat b w)
   unfolding jumpBeat pushAct
   jump-beat-good v h =
-      pick-case (λ (c : Act). Good (c .registers)) (bit w 8) (λ _. record { base = push-good b w v g; motion = tt })
-      (λ _. record { base = jump-good b w v g; motion = tt })
+      pick-case GoodAct (bit w 8) (λ _. dark (push-good b w v g)) (λ _. dark (jump-good b w v g))
 
   pop-beat-good : GoodBeat (popBeat b w)
   unfolding popBeat
-  pop-beat-good first _ second _ = record { base = pop-good b w first second g; motion = tt }
+  pop-beat-good first _ second _ = dark (pop-good b w first second g)
 
   miscellaneous-good : GoodBase (miscellaneous b w)
   unfolding miscellaneous
@@ -40,11 +45,11 @@ module _ (b : Base) (w : ℕ) (g : GoodBase b) where
   pub control-good : GoodBeat (controlBeat b w)
   unfolding controlBeat
   control-good =
-      pick-case GoodBeat (eqb (bits w 0 2) 0) (λ _. record { base = parameter-good b w g; motion = tt })
-      (λ _. pick-case GoodBeat (eqb (bits w 0 2) 1) (λ _. record { base = mode-good b w g; motion = tt })
+      pick-case GoodBeat (eqb (bits w 0 2) 0) (λ _. dark (parameter-good b w g))
+      (λ _. pick-case GoodBeat (eqb (bits w 0 2) 1) (λ _. dark (mode-good b w g))
       (λ _. pick-case GoodBeat (eqb (bits w 0 2) 2) (λ _. jump-beat-good)
       (λ _. pick-case GoodBeat (eqb (bits w 0 2) 3) (λ _. pop-beat-good)
-      (λ _. pick-case GoodBeat (eqb (bits w 0 2) 4) (λ _. record { base = button-skip-good b w false g; motion = tt })
-      (λ _. pick-case GoodBeat (eqb (bits w 0 2) 5) (λ _. record { base = button-skip-good b w true g; motion = tt })
-      (λ _. pick-case GoodBeat (eqb (bits w 0 2) 6) (λ _. record { base = miscellaneous-good; motion = tt })
-      (λ _. record { base = sync-good b w g; motion = tt })))))))
+      (λ _. pick-case GoodBeat (eqb (bits w 0 2) 4) (λ _. dark (button-skip-good b w false g))
+      (λ _. pick-case GoodBeat (eqb (bits w 0 2) 5) (λ _. dark (button-skip-good b w true g))
+      (λ _. pick-case GoodBeat (eqb (bits w 0 2) 6) (λ _. dark (miscellaneous-good))
+      (λ _. dark (sync-good b w g))))))))

@@ -4,6 +4,7 @@ use Prim.Native.Nat.{ℕ, _+_, _*_, _/_}
 use mathlib.Core.Bool.{Bool, true, false, not, _&&_}
 use lib.Dec.{eqb}
 use Rattle.words.specs.Words.{bit, bits, pick}
+use Rattle.addresses.specs.declared.DisplayAddress.{DisplayAddress}
 use Rattle.addresses.specs.Addresses.{addressAfter}
 use Rattle.paper.specs.declared.Reached.{Reached}
 use Rattle.paper.specs.DataWords.{distance, dimension, moved}
@@ -22,6 +23,13 @@ use Rattle.beam.specs.DataWords.{fieldX, fieldY, escaped, arrived}
 abbrev pub passing : Base → ℕ → Base
 passing b count = withAddress b (addressAfter (b .address) count)
 
+-- the address of a command's last word (02, No. 5): of one word its own, of two that of the second, counted modulo 32,768
+abbrev pub onlyWord : Base → DisplayAddress
+onlyWord b = b .address
+
+abbrev pub secondWord : Base → DisplayAddress
+secondWord b = addressAfter (b .address) 1
+
 -- a command beat that lights nothing and stops nothing
 abbrev pub unlit : Base → Motion → Outcome
 unlit b m = record { registers = record { base = b; motion = m }; lit = Dark; stop = None }
@@ -33,7 +41,7 @@ placed w old inhibit = record { value = pick (not inhibit) (old / 1024 * 1024 + 
 -- point (two words, y first, one beat): no scale, no violation
 unfoldable pub point : Base → ℕ → ℕ → Outcome
 point b w v =
-    arrived (passing b 2) Nothing (placed v (b .x) (bit v 1)) (placed w (b .y) (bit w 1))
+    arrived (passing b 2) Nothing (secondWord b) (placed v (b .x) (bit v 1)) (placed w (b .y) (bit w 1))
     (bit w 0)
     (bit v 0)
 
@@ -41,7 +49,7 @@ point b w v =
 unfoldable pub increment : Base → ℕ → Outcome
 increment b w =
     unlit (passing b 1)
-    (Bytes (record { word = w; moves = movesAsked (byteAt w false); right = false }))
+    (Bytes (onlyWord b) (record { word = w; moves = movesAsked (byteAt w false); right = false }))
 
 -- vector: signs and magnitudes (manual 2.2.3)
 unfoldable pub vectorLine : ℕ → ℕ → LineMotion
@@ -72,15 +80,15 @@ shortLine w =
     }
 
 -- if both magnitudes are 0, the command beat ends it with no point (H); its escape takes effect with it
-unfoldable pub begun : Base → LineMotion → Outcome
-begun b l =
-    pick (eqb (l .moves) 0) (unlit (escaped b (l .escape)) Nothing) (unlit b (Line l))
+unfoldable pub begun : Base → DisplayAddress → LineMotion → Outcome
+begun b lastword l =
+    pick (eqb (l .moves) 0) (unlit (escaped b (l .escape)) Nothing) (unlit b (Line lastword l))
 
 unfoldable pub vector : Base → ℕ → ℕ → Outcome
-vector b w v = begun (passing b 2) (vectorLine w v)
+vector b w v = begun (passing b 2) (secondWord b) (vectorLine w v)
 
 unfoldable pub shortVector : Base → ℕ → Outcome
-shortVector b w = begun (passing b 1) (shortLine w)
+shortVector b w = begun (passing b 1) (onlyWord b) (shortLine w)
 
 -- graphplot (one beat): one axis moves +s, the other's low 10 bits are set, after a violation too; the word always asks for its point; bit 1 is 0 where x
 -- moves (manual 2.2.7)
@@ -89,5 +97,5 @@ graphplot b w =
     let next = passing b 1 in
     let s = distance (b .scale) in
     pick (bit w 1)
-    (arrived next Nothing (placed w (b .x) false) (moved (dimension (fieldY b)) (b .y) s false) true (bit w 0))
-    (arrived next Nothing (moved (dimension (fieldX b)) (b .x) s false) (placed w (b .y) false) true (bit w 0))
+    (arrived next Nothing (onlyWord b) (placed w (b .x) false) (moved (dimension (fieldY b)) (b .y) s false) true (bit w 0))
+    (arrived next Nothing (onlyWord b) (moved (dimension (fieldX b)) (b .x) s false) (placed w (b .y) false) true (bit w 0))

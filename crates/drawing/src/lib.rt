@@ -54,9 +54,11 @@ pub fn point(b: Base, word: u16, second: u16) -> Outcome
     let y = placed(word, b.y, words::bit(word, 1));
     let x = placed(second, b.x, words::bit(second, 1));
     let next = state_set(b, b.address.after(2), b.datastate);
+    let lastword = b.address.after(1);
     beam::arrived(
         next,
         Motion::Nothing,
+        lastword,
         x,
         y,
         words::bit(word, 0),
@@ -75,7 +77,8 @@ pub fn increment(b: Base, word: u16) -> Outcome
         moves,
         right: false,
     };
-    unlit(next, Motion::Bytes(bytes))
+    let lastword = b.address;
+    unlit(next, Motion::Bytes(lastword, bytes))
 }
 
 // The line of a vector's two words.
@@ -117,8 +120,8 @@ fn short_line(word: u16) -> LineMotion
 }
 
 // A line begins; one with both magnitudes 0 ends at once.
-fn begun(b: Base, address: DisplayAddress, line: LineMotion) -> Outcome
-    ensures { λ r. ⌜ r ≡ begun (withAddress b address) line ⌝ }
+fn begun(b: Base, address: DisplayAddress, lastword: DisplayAddress, line: LineMotion) -> Outcome
+    ensures { λ r. ⌜ r ≡ begun (withAddress b address) lastword line ⌝ }
 {
     if line.moves == 0 {
         unlit(
@@ -126,7 +129,10 @@ fn begun(b: Base, address: DisplayAddress, line: LineMotion) -> Outcome
             Motion::Nothing,
         )
     } else {
-        unlit(state_set(b, address, b.datastate), Motion::Line(line))
+        unlit(
+            state_set(b, address, b.datastate),
+            Motion::Line(lastword, line),
+        )
     }
 }
 
@@ -134,14 +140,19 @@ fn begun(b: Base, address: DisplayAddress, line: LineMotion) -> Outcome
 pub fn vector(b: Base, word: u16, second: u16) -> Outcome
     ensures { λ r. ⌜ r ≡ vector b word second ⌝ }
 {
-    begun(b, b.address.after(2), vector_line(word, second))
+    begun(
+        b,
+        b.address.after(2),
+        b.address.after(1),
+        vector_line(word, second),
+    )
 }
 
 // Mode 4: both in one word.
 pub fn short_vector(b: Base, word: u16) -> Outcome
     ensures { λ r. ⌜ r ≡ shortVector b word ⌝ }
 {
-    begun(b, b.address.after(1), short_line(word))
+    begun(b, b.address.after(1), b.address, short_line(word))
 }
 
 // Mode 6: one axis moves on, the other is set.
@@ -156,6 +167,7 @@ pub fn graphplot(b: Base, word: u16) -> Outcome
         beam::arrived(
             next,
             Motion::Nothing,
+            b.address,
             placed(word, b.x, false),
             y,
             true,
@@ -166,6 +178,7 @@ pub fn graphplot(b: Base, word: u16) -> Outcome
         beam::arrived(
             next,
             Motion::Nothing,
+            b.address,
             x,
             placed(word, b.y, false),
             true,

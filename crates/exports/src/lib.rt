@@ -127,7 +127,7 @@ pub extern "C" fn eveglome_run(
     registers: &mut [u16; numbers::ROW],
     loan: &[u16; 4],
     memory: &mut [u16],
-    points: &mut [u32],
+    points: &mut [u64],
     budget: u32,
     answer: &mut [u32; ANSWER],
 )

@@ -26,7 +26,7 @@ abbrev pub Agree : Loan → List ℕ → List ℕ → Type 0
 Agree l m n = (length m ≡ length n) × ((a : DisplayAddress) → mayFetch l a ≡ true → getD m (a .0) 0 ≡ getD n (a .0) 0)
 
 -- "the same registers, ending, beats, points and lent words", "and the address is among the things that agree" (02, No. 1); "the held word is a register" (02,
--- No. 4)
+-- No. 4), and the address that a motion remembers and its points tell is one, too (02, No. 5)
 pub record Same (l : Loan) (f g : Run) : Type 0 where
   pub registers : f .registers ≡ g .registers
   pub ending : f .ending ≡ g .ending

@@ -67,7 +67,7 @@ fn complete(a: Asked) -> bool {
 }
 
 // Writes the answer of a run: its points, its ending in words, and what else was asked for.
-fn write_answer(shown: Shown, ran: Ran, memory: &Memory, before: &Memory, points: &[u32]) {
+fn write_answer(shown: Shown, ran: Ran, memory: &Memory, before: &Memory, points: &[u64]) {
     let registers = ran.registers;
     let answer = ran.answer;
     let told = calls::numbered(answer);
@@ -84,14 +84,14 @@ fn write_answer(shown: Shown, ran: Ran, memory: &Memory, before: &Memory, points
 }
 
 // Makes the run, and writes its answer.
-fn answer(a: Asked, s: Source, memory: &mut Memory, before: &Memory, points: &mut [u32]) {
+fn answer(a: Asked, s: Source, memory: &mut Memory, before: &Memory, points: &mut [u64]) {
     let ran = asked::run(a, s, memory, points);
     let shown = a.shown;
     write_answer(shown, ran, memory, before, points);
 }
 
 // Lends of the point list as much as was asked for.
-fn lend(a: Asked, s: Source, memory: &mut Memory, before: &Memory, points: &mut [u32])
+fn lend(a: Asked, s: Source, memory: &mut Memory, before: &Memory, points: &mut [u64])
     requires { ⌜ length (now points) ≡ 65536 ⌝ }
 {
     // Never above 65,536; the remainder spares every caller to say so.
@@ -103,7 +103,7 @@ fn lend(a: Asked, s: Source, memory: &mut Memory, before: &Memory, points: &mut 
 fn run(a: Asked, input: &[u8]) {
     let mut memory = [0u16; 32768];
     let mut before = [0u16; 32768];
-    let mut points = [0u32; 65536];
+    let mut points = [0u64; 65536];
     source::read(input, &mut before);
     let s = source::read(input, &mut memory);
     if source::whole(s) {
@@ -124,7 +124,7 @@ fn stopped(answer: Answer) -> bool {
 }
 
 // The practice program's run: all of memory lent, and room for 1,024 points.
-fn practiced(a: Asked, input: &[u8], memory: &mut Memory, points: &mut [u32; 1024]) -> Ran {
+fn practiced(a: Asked, input: &[u8], memory: &mut Memory, points: &mut [u64; 1024]) -> Ran {
     let all = arguments::taken(a, b"--all");
     let mut s = source::unread();
     s.start = lines::start(input);
@@ -136,7 +136,7 @@ fn hint(a: Asked, input: &[u8]) {
     let mut memory = [0u16; 32768];
     let count = lines::read(input, &mut memory);
     if spots::good(input, count) {
-        let mut points = [0u32; 1024];
+        let mut points = [0u64; 1024];
         let ran = practiced(a, input, &mut memory, &mut points);
         let answer = ran.answer;
         if !stopped(answer) {

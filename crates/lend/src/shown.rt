@@ -5,7 +5,7 @@ use libc::STDOUT_FILENO;
 use registers::Registers;
 
 // Writes a line for each of the first `count` points.
-pub(crate) fn write_points(points: &[u32], count: usize) {
+pub(crate) fn write_points(points: &[u64], count: usize) {
     let mut i = 0;
     while i < count && i < points.len() {
         write_point(points[i]);
@@ -13,7 +13,7 @@ pub(crate) fn write_points(points: &[u32], count: usize) {
     }
 }
 
-fn write_point(point: u32) {
+fn write_point(point: u64) {
     let mut line = [0u8; 64];
     let length = printout::put_point(point, &mut line, 0);
     emit(STDOUT_FILENO, &line, length);
@@ -72,14 +72,14 @@ pub(crate) fn write_registers(r: Registers) {
     let kind = row[numbers::KIND];
     if kind == 1 {
         write_names(
-            b"line, minus y=line, minus x=line, magnitude of y=line, magnitude of x=line, moves=line, moves made=line, lit=line, escape=",
+            b"line, minus y=line, minus x=line, magnitude of y=line, magnitude of x=line, moves=line, moves made=line, lit=line, escape=line, address of its last word#",
             &row,
             numbers::KIND + 1,
         );
     }
     if kind == 2 {
         write_names(
-            b"bytes, word#bytes, right byte=bytes, moves left=",
+            b"bytes, word#bytes, right byte=bytes, moves left=bytes, address of its last word#",
             &row,
             numbers::KIND + 1,
         );

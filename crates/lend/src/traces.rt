@@ -17,7 +17,7 @@ struct Made {
     told: Numbers,
 }
 
-fn make(r: Registers, l: Loan, memory: &mut Memory, points: &mut [u32]) -> Made {
+fn make(r: Registers, l: Loan, memory: &mut Memory, points: &mut [u64]) -> Made {
     let ran = calls::call(r, l, memory, points, 1);
     let registers = ran.registers;
     let answer = ran.answer;
@@ -40,8 +40,8 @@ struct View {
 fn is_moving(motion: Motion) -> bool {
     match motion {
         Motion::Nothing => false,
-        Motion::Line(_) => true,
-        Motion::Bytes(_) => true,
+        Motion::Line(_, _) => true,
+        Motion::Bytes(_, _) => true,
     }
 }
 
@@ -99,7 +99,7 @@ fn put_before(beat: u32, v: View, memory: &Memory, line: &mut [u8]) -> usize {
     put_words(v, memory, line, taken)
 }
 
-fn put_point(points: &[u32], count: usize, line: &mut [u8], place: usize) -> usize {
+fn put_point(points: &[u64], count: usize, line: &mut [u8], place: usize) -> usize {
     if (count == 1) & (0 < points.len()) {
         let named = text::put_all(b", point ", line, place);
         printout::put_points(points, 1, line, named)
@@ -109,7 +109,7 @@ fn put_point(points: &[u32], count: usize, line: &mut [u8], place: usize) -> usi
 }
 
 // And what stands behind it.
-fn put_after(v: View, points: &[u32], count: usize, line: &mut [u8], place: usize) -> usize {
+fn put_after(v: View, points: &[u64], count: usize, line: &mut [u8], place: usize) -> usize {
     let beam = text::put_all(b", beam ", line, place);
     let across = text::put_number(v.x as u32, b' ', line, beam);
     let along = text::put_decimal(v.y as u32, line, across);
@@ -117,7 +117,7 @@ fn put_after(v: View, points: &[u32], count: usize, line: &mut [u8], place: usiz
 }
 
 // Makes one beat, and writes its line if it could be made.
-fn write_beat(beat: u32, r: Registers, l: Loan, memory: &mut Memory, points: &mut [u32]) -> Made {
+fn write_beat(beat: u32, r: Registers, l: Loan, memory: &mut Memory, points: &mut [u64]) -> Made {
     let mut line = [0u8; 128];
     let before = put_before(beat, seen(r), memory, &mut line);
     let made = make(r, l, memory, points);
@@ -133,10 +133,10 @@ fn write_beat(beat: u32, r: Registers, l: Loan, memory: &mut Memory, points: &mu
 // The same, with room for one point or for none.
 fn write_lit(beat: u32, r: Registers, l: Loan, memory: &mut Memory, room: bool) -> Made {
     if room {
-        let mut point = [0u32; 1];
+        let mut point = [0u64; 1];
         write_beat(beat, r, l, memory, &mut point)
     } else {
-        let mut nowhere = [0u32; 0];
+        let mut nowhere = [0u64; 0];
         write_beat(beat, r, l, memory, &mut nowhere)
     }
 }

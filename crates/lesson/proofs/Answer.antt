@@ -39,10 +39,10 @@ module _ (a : ℕ) (m : List ℕ) {b : Registers} (p : b ≡ begun a) {t : Ran} 
       ap told (ap (λ (r : Registers). call 65535 all r m room) (sym p) ∙ sym q)
       ∙ ap (λ (k : Numbers). pointLines (k .points) ps ++ endingLine (k .ending) (k .beats)) (sym e)
 
-  -- 1,024 points of at most 24 bytes, and a last line of at most 25
-  pub short : length ps ≡ 1024 → length (told (played a m)) ≤ 24601
+  -- 1,024 points of at most 30 bytes, and a last line of at most 25
+  pub short : length ps ≡ 1024 → length (told (played a m)) ≤ 30745
   short h = rw (shown, length-append) (omega (arith, length-point-lines (n .points) ps, length-ending-line (n .ending) (n .beats)))
 
 -- what has room stands at the start of the list
-pub placed : (ws text : List ℕ) {g : Filled} → length ws ≤ 24601 → length text ≡ 24601 → g ≡ puts ws (filled 0 text) → g ≡ whole ws text
+pub placed : (ws text : List ℕ) {g : Filled} → length ws ≤ 30745 → length text ≡ 30745 → g ≡ puts ws (filled 0 text) → g ≡ whole ws text
 placed ws text h k p = p ∙ puts-whole ws text (omega arith)

@@ -14,7 +14,7 @@ fn blank() -> [u16; 32768]
     [0; 32768]
 }
 
-fn room() -> [u32; 1024]
+fn room() -> [u64; 1024]
     ensures { λ r. ⌜ r ≡ room ⌝ }
 {
     [0; 1024]
@@ -30,7 +30,7 @@ fn begun(address: u16) -> Registers
 // Runs the memory from an address, and writes what the display lit and how it ended.
 fn play(address: u16, memory: &mut [u16; 32768], text: &mut [u8], place: usize) -> usize
     ensures { λ r. ⌜ filled r (now (text .exit)) ≡ puts (told (played address (now (memory .entry)))) (filled place (now (text .entry))) ⌝ }
-    ensures { λ _. ⌜ length (told (played address (now (memory .entry)))) ≤ 24601 ⌝ }
+    ensures { λ _. ⌜ length (told (played address (now (memory .entry)))) ≤ 30745 ⌝ }
 {
     let mut points = room();
     let all = Loan {
@@ -46,9 +46,9 @@ fn play(address: u16, memory: &mut [u16; 32768], text: &mut [u8], place: usize) 
     printout::put_ending(told.ending, told.beats, text, drawn)
 }
 
-// What the practice program writes for what it reads, at the start of a list that has room for the longest answer: 1,024 points of at most 24 bytes
+// What the practice program writes for what it reads, at the start of a list that has room for the longest answer: 1,024 points of at most 30 bytes
 // each, and the last line of at most 25.
-pub fn practice(input: &[u8], text: &mut [u8; 24601]) -> usize
+pub fn practice(input: &[u8], text: &mut [u8; 30745]) -> usize
     ensures { λ r. ⌜ filled r (now (text .exit)) ≡ whole (practice (now (input .entry))) (now (text .entry)) ⌝ }
 {
     let mut memory = blank();

@@ -6,6 +6,7 @@ use mathlib.Core.List.{List}
 use native.Mathlib.Omega.{arith}
 use lib.ListN.{length}
 use Rattle.words.proofs.Laws.{pick-case}
+use Rattle.addresses.specs.declared.DisplayAddress.{DisplayAddress}
 use Rattle.paper.specs.declared.Reached.{Reached}
 use Rattle.paper.specs.DataWords.{distance, dimension}
 use Rattle.paper.specs.Arithmetic.{wrapped}
@@ -40,36 +41,53 @@ unescaped going escape continues x y eg ec = rw (eg, ec) (by escape x y)
     by true false false = refl
 
 -- a byte's move is no longer than the distance
-short : (t : ByteMotion) (s : ℕ) → s ≤ 8 → (byteMove t s .travelx ≤ 255) × (byteMove t s .travely ≤ 255)
+short : (a : DisplayAddress) (t : ByteMotion) (s : ℕ) → s ≤ 8 → (byteMove a t s .travelx ≤ 255) × (byteMove a t s .travely ≤ 255)
 unfolding byteMove
-short t s h = (pick-case (λ (n : ℕ). n ≤ 255) _ (λ _. omega arith) (λ _. omega arith), pick-case (λ (n : ℕ). n ≤ 255) _ (λ _. omega arith) (λ _. omega arith))
+short a t s h = (pick-case (λ (n : ℕ). n ≤ 255) _ (λ _. omega arith) (λ _. omega arith), pick-case (λ (n : ℕ). n ≤ 255) _ (λ _. omega arith) (λ _. omega arith))
 
-not-continued : (t : ByteMotion) (s : ℕ) → byteMove t s .continues ≡ false
+not-continued : (a : DisplayAddress) (t : ByteMotion) (s : ℕ) → byteMove a t s .continues ≡ false
 unfolding byteMove
-not-continued t s = refl
+not-continued a t s = refl
+
+-- it tells the motion's address, and the motion keeps it
+told : (a : DisplayAddress) (t : ByteMotion) (s : ℕ) → byteMove a t s .lastword ≡ a
+unfolding byteMove
+told a t s = refl
+
+next-told : (a w : DisplayAddress) (t next : ByteMotion) (escape : Bool) → byteNext a t escape ≡ Bytes w next → a ≡ w
+unfolding byteNext
+next-told a w t next escape =
+    let same : Motion → Type 0 = λ (m : Motion). m ≡ Bytes w next → a ≡ w in
+    pick-case same _ (λ _ e. cc) (λ _. pick-case same _ (λ _ e. cc) (λ _ e. cc))
+
+motion-told : (a w : DisplayAddress) (t next : ByteMotion) (s : ℕ) → byteMove a t s .motion ≡ Bytes w next → a ≡ w
+unfolding byteMove
+motion-told a w t next s = next-told a w t next _
 
 -- where no byte follows, nothing does
-last : (t : ByteMotion) (escape : Bool) → ((next : ByteMotion) → byteNext t escape ≡ Bytes next → ⊥) → goesOn (byteNext t escape) ≡ false
+last : (a : DisplayAddress) (t : ByteMotion) (escape : Bool) → ((w : DisplayAddress) (next : ByteMotion) → byteNext a t escape ≡ Bytes w next → ⊥) →
+    goesOn (byteNext a t escape) ≡ false
 unfolding byteNext
-last t escape =
-    let none : Motion → Type 0 = λ (m : Motion). ((next : ByteMotion) → m ≡ Bytes next → ⊥) → goesOn m ≡ false in
-    pick-case none _ (λ _ h. absurd (h _ refl)) (λ _. pick-case none _ (λ _ _. refl) (λ _ h. absurd (h _ refl)))
+last a t escape =
+    let none : Motion → Type 0 = λ (m : Motion). ((w : DisplayAddress) (next : ByteMotion) → m ≡ Bytes w next → ⊥) → goesOn m ≡ false in
+    pick-case none _ (λ _ h. absurd (h _ _ refl)) (λ _. pick-case none _ (λ _ _. refl) (λ _ h. absurd (h _ _ refl)))
 
-motion-last : (t : ByteMotion) (s : ℕ) → ((next : ByteMotion) → byteMove t s .motion ≡ Bytes next → ⊥) → goesOn (byteMove t s .motion) ≡ false
+motion-last : (a : DisplayAddress) (t : ByteMotion) (s : ℕ) → ((w : DisplayAddress) (next : ByteMotion) → byteMove a t s .motion ≡ Bytes w next → ⊥) →
+    goesOn (byteMove a t s .motion) ≡ false
 unfolding byteMove
-motion-last t s = last t _
+motion-last a t s = last a t _
 
 -- what the loop's head keeps: what was set before it, and how far it has come
-pub record Along (n₀ : ℕ) (r₀ : Registers) (ps₀ : List ℕ) (place₀ : ℕ) (b : Base) (placesx placesy travel upperx uppery : ℕ) (n lowx lowy : ℕ) (t : ByteMotion) (ps : List ℕ) (place : ℕ) : Type 0 where
+pub record Along (n₀ : ℕ) (r₀ : Registers) (ps₀ : List ℕ) (place₀ : ℕ) (b : Base) (placesx placesy travel upperx uppery : ℕ) (lastword : DisplayAddress) (n lowx lowy : ℕ) (t : ByteMotion) (ps : List ℕ) (place : ℕ) : Type 0 where
   pub axisx : Parted (fieldX b) placesx upperx lowx
   pub axisy : Parted (fieldY b) placesy uppery lowy
   pub reach : travel ≡ distance (b .scale)
-  pub far : Far n₀ r₀ ps₀ place₀ b n (upperx + lowx) (uppery + lowy) (Bytes t) ps place
+  pub far : Far n₀ r₀ ps₀ place₀ b n (upperx + lowx) (uppery + lowy) (Bytes lastword t) ps place
 
-pub start : {n : ℕ} {b : Base} {t : ByteMotion} {ps : List ℕ} {from placesx placesy travel : ℕ} →
-    Good (record { base = b; motion = Bytes t }) → from ≤ length ps → placesx ≡ 2 ^ dimension (fieldX b) → placesy ≡ 2 ^ dimension (fieldY b) →
+pub start : {n : ℕ} {b : Base} {lastword : DisplayAddress} {t : ByteMotion} {ps : List ℕ} {from placesx placesy travel : ℕ} →
+    Good (record { base = b; motion = Bytes lastword t }) → from ≤ length ps → placesx ≡ 2 ^ dimension (fieldX b) → placesy ≡ 2 ^ dimension (fieldY b) →
     travel ≡ distance (b .scale) →
-    Along n (record { base = b; motion = Bytes t }) ps from b placesx placesy travel (b .x - b .x % placesx) (b .y - b .y % placesy) n (b .x % placesx) (b .y % placesy) t ps from
+    Along n (record { base = b; motion = Bytes lastword t }) ps from b placesx placesy travel (b .x - b .x % placesx) (b .y - b .y % placesy) lastword n (b .x % placesx) (b .y % placesy) t ps from
 start {b = b} {placesx = placesx} {placesy = placesy} g room px py e =
     record {
       axisx = parted (fieldX b) placesx (b .x) px;
@@ -78,16 +96,16 @@ start {b = b} {placesx = placesx} {placesy = placesy} g room px py e =
       far = rw (rejoined placesx (b .x), rejoined placesy (b .y)) (record { size = refl; room = room; good = g; whole = refl });
     }
 
-module _ {n₀ : ℕ} {r₀ : Registers} {ps₀ : List ℕ} {place₀ : ℕ} {b : Base} {placesx placesy travel upperx uppery n lowx lowy : ℕ} {t : ByteMotion} {ps : List ℕ} {place : ℕ}
-    (a : Along n₀ r₀ ps₀ place₀ b placesx placesy travel upperx uppery n lowx lowy t ps place) (some : 0 < n) {v : Move} (moves : v ≡ byteMove t travel) where
+module _ {n₀ : ℕ} {r₀ : Registers} {ps₀ : List ℕ} {place₀ : ℕ} {b : Base} {placesx placesy travel upperx uppery : ℕ} {lastword : DisplayAddress} {n lowx lowy : ℕ} {t : ByteMotion} {ps : List ℕ} {place : ℕ}
+    (a : Along n₀ r₀ ps₀ place₀ b placesx placesy travel upperx uppery lastword n lowx lowy t ps place) (some : 0 < n) {v : Move} (moves : v ≡ byteMove lastword t travel) where
   -- a call that returns here shows the sequence
   abbrev Shows : Type 0
-  Shows = Shown n₀ r₀ ps₀ place₀ b n (upperx + lowx) (uppery + lowy) (Bytes t) ps place
+  Shows = Shown n₀ r₀ ps₀ place₀ b n (upperx + lowx) (uppery + lowy) (Bytes lastword t) ps place
 
-  as-defined : v ≡ byteMove t (distance (b .scale))
-  as-defined = moves ∙ ap (byteMove t) (a .reach)
+  as-defined : v ≡ byteMove lastword t (distance (b .scale))
+  as-defined = moves ∙ ap (byteMove lastword t) (a .reach)
 
-  next-move : nextMove (Bytes t) (b .mode) (b .scale) ≡ Going v
+  next-move : nextMove (Bytes lastword t) (b .mode) (b .scale) ≡ Going v
   unfolding nextMove
   next-move = ap Going (sym as-defined)
 
@@ -95,16 +113,19 @@ module _ {n₀ : ℕ} {r₀ : Registers} {ps₀ : List ℕ} {place₀ : ℕ} {b 
   fewer = omega arith
 
   near : (v .travelx ≤ 255) × (v .travely ≤ 255)
-  near = rw as-defined (short t (distance (b .scale)) (distance-small _))
+  near = rw as-defined (short lastword t (distance (b .scale)) (distance-small _))
 
   -- a move that no byte follows is not made
-  pub ends : ((next : ByteMotion) → v .motion ≡ Bytes next → ⊥) → Shows
+  pub ends : ((w : DisplayAddress) (next : ByteMotion) → v .motion ≡ Bytes w next → ⊥) → Shows
   unfolding plain
-  ends h = violates (a .far) fewer next-move (rw (ap (λ (w : Move). goesOn (w .motion)) moves ∙ motion-last t travel (rw moves at h)))
+  ends h = violates (a .far) fewer next-move (rw (ap (λ (w : Move). goesOn (w .motion)) moves ∙ motion-last lastword t travel (rw moves at h)))
 
   -- bytes follow, and the code has tried both axes
-  module _ {next : ByteMotion} (follows : v .motion ≡ Bytes next) {nextx nexty : Reached}
+  module _ {w : DisplayAddress} {next : ByteMotion} (comes : v .motion ≡ Bytes w next) {nextx nexty : Reached}
       (nx : nextx ≡ wrapped placesx lowx (v .travelx) (v .minusx)) (ny : nexty ≡ wrapped placesy lowy (v .travely) (v .minusy)) where
+    follows : v .motion ≡ Bytes lastword next
+    follows = rw (motion-told lastword w t next travel (rw moves at comes)) comes
+
     there-x : movedX (beamAt b (upperx + lowx) (uppery + lowy)) v ≡ onto upperx nextx
     there-x = parted-moved (a .axisx) (v .travelx) (near .0) (v .minusx) nx
 
@@ -114,30 +135,33 @@ module _ {n₀ : ℕ} {r₀ : Registers} {ps₀ : List ℕ} {place₀ : ℕ} {b 
     tests : plain (beamAt b (upperx + lowx) (uppery + lowy)) v ≡ not (nextx .violated || nexty .violated || v .escape)
     tests =
         tested (beamAt b (upperx + lowx) (uppery + lowy)) v there-x there-y
-        ∙ unescaped (goesOn (v .motion)) (v .escape) (v .continues) (nextx .violated) (nexty .violated) (ap goesOn follows) (ap (λ (w : Move). w .continues) moves ∙ not-continued t travel)
+        ∙ unescaped (goesOn (v .motion)) (v .escape) (v .continues) (nextx .violated) (nexty .violated) (ap goesOn follows) (ap (λ (w : Move). w .continues) moves ∙ not-continued lastword t travel)
 
     -- a move that violates or escapes is not made
     pub stops : (nextx .violated || nexty .violated || v .escape) ≡ true → Shows
     stops e = violates (a .far) fewer next-move (tests ∙ rw e)
 
     -- any other, with what it lights
-    module _ (e : (nextx .violated || nexty .violated || v .escape) ≡ false) {lit : Lit} (el : lit ≡ litAt b (upperx + nextx .value) (uppery + nexty .value) (v .asked) false) where
+    module _ (e : (nextx .violated || nexty .violated || v .escape) ≡ false) {lit : Lit} (el : lit ≡ litAt b lastword (upperx + nextx .value) (uppery + nexty .value) (v .asked) false) where
       plainly : plain (beamAt b (upperx + lowx) (uppery + lowy)) v ≡ true
       plainly = tests ∙ rw e
 
+      lights : lit ≡ litAt b (v .lastword) (upperx + nextx .value) (uppery + nexty .value) (v .asked) false
+      lights = rw (ap (λ (m : Move). m .lastword) moves ∙ told lastword t travel) el
+
       -- without room for its point it is not made
       pub crammed : {value : ℕ} → lit ≡ Point value → length ps ≤ place → Shows
-      crammed u f = fills (a .far) fewer next-move plainly there-x there-y el (rw u (omega arith))
+      crammed u f = fills (a .far) fewer next-move plainly there-x there-y lights (rw u (omega arith))
 
       -- with room for it, it is made
       pub onwards : {ps′ : List ℕ} {place′ : ℕ} → Put lit ps place ps′ place′ →
-          Along n₀ r₀ ps₀ place₀ b placesx placesy travel upperx uppery (n - 1) (nextx .value) (nexty .value) next ps′ place′
-      onwards {ps′} {place′} w =
+          Along n₀ r₀ ps₀ place₀ b placesx placesy travel upperx uppery lastword (n - 1) (nextx .value) (nexty .value) next ps′ place′
+      onwards {ps′} {place′} put =
           record {
             axisx = parted-next (a .axisx) (v .travelx) (v .minusx) nx;
             axisy = parted-next (a .axisy) (v .travely) (v .minusy) ny;
             reach = a .reach;
             far =
                 subst (λ (m : Motion). Far n₀ r₀ ps₀ place₀ b (n - 1) (upperx + nextx .value) (uppery + nexty .value) m ps′ place′) follows
-                (goes (a .far) fewer next-move plainly there-x there-y el w);
+                (goes (a .far) fewer next-move plainly there-x there-y lights put);
           }

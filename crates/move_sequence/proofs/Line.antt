@@ -15,6 +15,7 @@ use lib.ListN.{length}
 use borrow.Author.Tests.{ltb-true, ltb-false, lt-ltb, le-ltb, lt-leb}
 use Rattle.words.specs.Words.{pick}
 use Rattle.words.proofs.Laws.{pick-case}
+use Rattle.addresses.specs.declared.DisplayAddress.{DisplayAddress}
 use Rattle.paper.specs.declared.Reached.{Reached}
 use Rattle.paper.specs.DataWords.{distance, dimension, travel}
 use Rattle.paper.specs.Arithmetic.{wrapped, owed}
@@ -39,24 +40,24 @@ use Rattle.move_sequence.specs.PlainMoves.{goesOn, plain, sequence}
 use Rattle.move_sequence.proofs.Plain.{onto, at, tested, Shown, Put, Far, spent, violates, fills, goes}
 
 -- the registers with the beam at x and y and k moves of the line done
-abbrev onLine : Base → LineMotion → ℕ → ℕ → ℕ → Registers
-onLine b l x y k = at b x y (Line (withDone l k))
+abbrev onLine : Base → DisplayAddress → LineMotion → ℕ → ℕ → ℕ → Registers
+onLine b lastword l x y k = at b x y (Line lastword (withDone l k))
 
 -- the move that they make next
-abbrev lineFrom : Base → LineMotion → ℕ → Move
-lineFrom b l k = lineMove (withDone l k) (distance (b .scale)) (eqb (b .mode) 3)
+abbrev lineFrom : Base → DisplayAddress → LineMotion → ℕ → Move
+lineFrom b lastword l k = lineMove lastword (withDone l k) (distance (b .scale)) (eqb (b .mode) 3)
 
-next : (b : Base) (l : LineMotion) (k : ℕ) → nextMove (Line (withDone l k)) (b .mode) (b .scale) ≡ Going (lineFrom b l k)
+next : (b : Base) (lastword : DisplayAddress) (l : LineMotion) (k : ℕ) → nextMove (Line lastword (withDone l k)) (b .mode) (b .scale) ≡ Going (lineFrom b lastword l k)
 unfolding nextMove
-next b l k = refl
+next b lastword l k = refl
 
 -- a move that is not the line's last goes on with it and escapes nothing
-module _ (b : Base) (l : LineMotion) (k : ℕ) (less : k + 1 < l .moves) where
-  line-on : lineFrom b l k .motion ≡ Line (withDone l (k + 1))
+module _ (b : Base) (lastword : DisplayAddress) (l : LineMotion) (k : ℕ) (less : k + 1 < l .moves) where
+  line-on : lineFrom b lastword l k .motion ≡ Line lastword (withDone l (k + 1))
   unfolding lineMove lineNext pick
   line-on = rw (lt-ltb (k + 1) (l .moves) less)
 
-  quiet : (lineFrom b l k .escape && not (lineFrom b l k .continues)) ≡ false
+  quiet : (lineFrom b lastword l k .escape && not (lineFrom b lastword l k .continues)) ≡ false
   unfolding lineMove
   quiet = waits (l .escape) (leb (l .moves) (k + 1)) (eqb (b .mode) 3) (rw (lt-leb (l .moves) (k + 1) less))
 
@@ -66,14 +67,14 @@ unviolated going still true y eg es = rw (eg, es)
 unviolated going still false y eg es = rw (eg, es)
 
 -- a line's last move ends it or starts it over, so it is not plain
-last-ends : (b : Base) (l : LineMotion) (k : ℕ) → l .moves ≤ k + 1 → goesOn (lineFrom b l k .motion) ≡ false
+last-ends : (b : Base) (lastword : DisplayAddress) (l : LineMotion) (k : ℕ) → l .moves ≤ k + 1 → goesOn (lineFrom b lastword l k .motion) ≡ false
 unfolding lineMove lineNext pick
-last-ends b l k h =
+last-ends b lastword l k h =
     rw (le-ltb (k + 1) (l .moves) h) (pick-case (λ (m : Motion). goesOn m ≡ false) (eqb (b .mode) 3) (λ _. refl) (λ _. refl))
 
-last-stays : (b : Base) (l : LineMotion) (x y k : ℕ) → l .moves ≤ k + 1 → plain (beamAt b x y) (lineFrom b l k) ≡ false
+last-stays : (b : Base) (lastword : DisplayAddress) (l : LineMotion) (x y k : ℕ) → l .moves ≤ k + 1 → plain (beamAt b x y) (lineFrom b lastword l k) ≡ false
 unfolding plain
-last-stays b l x y k h = rw (last-ends b l k h)
+last-stays b lastword l x y k h = rw (last-ends b lastword l k h)
 
 -- where the loop ends: with as many moves done as the limit lets, or with all but the last
 pub record Bound (done moves limit last : ℕ) : Type 0 where
@@ -101,7 +102,7 @@ near : (k m n scale : ℕ) → travel k m n (distance scale) ≤ 255
 near k m n scale = le-trans (travel-small k m n (distance scale)) (le-trans (distance-small scale) (omega arith))
 
 -- what the loop's head keeps: what was set before it, where it ends, what it carries, and how far it has come
-pub record Along (b : Base) (l : LineMotion) (ps₀ : List ℕ) (from limit placesx placesy reach last upperx uppery twice : ℕ) (ps : List ℕ) (lowx lowy owedx owedy done place : ℕ) : Type 0 where
+pub record Along (b : Base) (lastword : DisplayAddress) (l : LineMotion) (ps₀ : List ℕ) (from limit placesx placesy reach last upperx uppery twice : ℕ) (ps : List ℕ) (lowx lowy owedx owedy done place : ℕ) : Type 0 where
   pub axisx : Parted (fieldX b) placesx upperx lowx
   pub axisy : Parted (fieldY b) placesy uppery lowy
   pub distanced : reach ≡ distance (b .scale)
@@ -111,13 +112,13 @@ pub record Along (b : Base) (l : LineMotion) (ps₀ : List ℕ) (from limit plac
   pub bounds : Bound (l .done) (l .moves) limit last
   pub begun : l .done ≤ done
   pub reached : done ≤ last
-  pub far : Far limit (record { base = b; motion = Line l }) ps₀ from b (limit - (done - l .done)) (upperx + lowx) (uppery + lowy) (Line (withDone l done)) ps place
+  pub far : Far limit (record { base = b; motion = Line lastword l }) ps₀ from b (limit - (done - l .done)) (upperx + lowx) (uppery + lowy) (Line lastword (withDone l done)) ps place
 
-pub start : {b : Base} {l : LineMotion} {ps : List ℕ} {from limit placesx placesy reach last owedx owedy : ℕ} →
-    Good (record { base = b; motion = Line l }) → from ≤ length ps → placesx ≡ 2 ^ dimension (fieldX b) → placesy ≡ 2 ^ dimension (fieldY b) →
+pub start : {b : Base} {lastword : DisplayAddress} {l : LineMotion} {ps : List ℕ} {from limit placesx placesy reach last owedx owedy : ℕ} →
+    Good (record { base = b; motion = Line lastword l }) → from ≤ length ps → placesx ≡ 2 ^ dimension (fieldX b) → placesy ≡ 2 ^ dimension (fieldY b) →
     reach ≡ distance (b .scale) → last ≡ pick (ltb limit (l .moves - 1 - l .done)) (l .done + limit) (l .moves - 1) →
     owedx ≡ owed (l .done) (l .magx) (l .moves) → owedy ≡ owed (l .done) (l .magy) (l .moves) →
-    Along b l ps from limit placesx placesy reach last (b .x - b .x % placesx) (b .y - b .y % placesy) (2 * l .moves) ps (b .x % placesx) (b .y % placesy) owedx owedy (l .done) from
+    Along b lastword l ps from limit placesx placesy reach last (b .x - b .x % placesx) (b .y - b .y % placesy) (2 * l .moves) ps (b .x % placesx) (b .y % placesy) owedx owedy (l .done) from
 start {b = b} {l = l} {limit = limit} {placesx = placesx} {placesy = placesy} {last = last} g room px py e el ox oy =
     let n : Bound (l .done) (l .moves) limit last = rw el (bound (l .done) (l .moves) limit (g .motion .3 .done)) in
     let all : limit - (l .done - l .done) ≡ limit = omega arith in
@@ -134,11 +135,11 @@ start {b = b} {l = l} {limit = limit} {placesx = placesx} {placesy = placesy} {l
       far = rw (rejoined placesx (b .x), rejoined placesy (b .y)) (record { size = refl; room = room; good = g; whole = rw all });
     }
 
-module _ {b : Base} {l : LineMotion} {ps₀ : List ℕ} {from limit placesx placesy reach last upperx uppery twice : ℕ} {ps : List ℕ} {lowx lowy owedx owedy done place : ℕ}
-    (a : Along b l ps₀ from limit placesx placesy reach last upperx uppery twice ps lowx lowy owedx owedy done place) where
+module _ {b : Base} {lastword : DisplayAddress} {l : LineMotion} {ps₀ : List ℕ} {from limit placesx placesy reach last upperx uppery twice : ℕ} {ps : List ℕ} {lowx lowy owedx owedy done place : ℕ}
+    (a : Along b lastword l ps₀ from limit placesx placesy reach last upperx uppery twice ps lowx lowy owedx owedy done place) where
   -- a call that returns here shows the sequence
   abbrev Shows : Type 0
-  Shows = Shown limit (record { base = b; motion = Line l }) ps₀ from b (limit - (done - l .done)) (upperx + lowx) (uppery + lowy) (Line (withDone l done)) ps place
+  Shows = Shown limit (record { base = b; motion = Line lastword l }) ps₀ from b (limit - (done - l .done)) (upperx + lowx) (uppery + lowy) (Line lastword (withDone l done)) ps place
 
   -- the numbers are small
   pub few : done ≤ 1023
@@ -185,8 +186,8 @@ module _ {b : Base} {l : LineMotion} {ps₀ : List ℕ} {from limit placesx plac
       by : (n : ℕ) → limit - (done - l .done) ≡ n → Shows
       by zero e = spent (a .far) e
       by (suc n) e =
-          violates (a .far) e (next b l done)
-          (last-stays b l (upperx + lowx) (uppery + lowy) done (⊎-elim (λ m. absurd (omega arith)) (λ m. omega arith) (a .bounds .met)))
+          violates (a .far) e (next b lastword l done)
+          (last-stays b lastword l (upperx + lowx) (uppery + lowy) done (⊎-elim (λ m. absurd (omega arith)) (λ m. omega arith) (a .bounds .met)))
 
   -- in a turn of the loop, with how far the code takes each axis, and where
   module _ (turn : done < last) {travelx travely : ℕ} {nextx nexty : Reached}
@@ -198,46 +199,46 @@ module _ {b : Base} {l : LineMotion} {ps₀ : List ℕ} {from limit placesx plac
     some : limit - (done - l .done) ≡ suc (limit - (done + 1 - l .done))
     some = omega (arith, a .bounds .limited, a .begun)
 
-    there-x : movedX (beamAt b (upperx + lowx) (uppery + lowy)) (lineFrom b l done) ≡ onto upperx nextx
+    there-x : movedX (beamAt b (upperx + lowx) (uppery + lowy)) (lineFrom b lastword l done) ≡ onto upperx nextx
     unfolding lineMove
     there-x =
         parted-moved (a .axisx) (travel done (l .magx) (l .moves) (distance (b .scale))) (near done (l .magx) (l .moves) (b .scale)) (l .minusx)
         (nx ∙ rw (tx, a .distanced, travels done (l .magx) (l .moves) (omega arith) (a .owesx) (a .doubled) (distance (b .scale))))
 
-    there-y : movedY (beamAt b (upperx + lowx) (uppery + lowy)) (lineFrom b l done) ≡ onto uppery nexty
+    there-y : movedY (beamAt b (upperx + lowx) (uppery + lowy)) (lineFrom b lastword l done) ≡ onto uppery nexty
     unfolding lineMove
     there-y =
         parted-moved (a .axisy) (travel done (l .magy) (l .moves) (distance (b .scale))) (near done (l .magy) (l .moves) (b .scale)) (l .minusy)
         (ny ∙ rw (ty, a .distanced, travels done (l .magy) (l .moves) (omega arith) (a .owesy) (a .doubled) (distance (b .scale))))
 
-    tests : plain (beamAt b (upperx + lowx) (uppery + lowy)) (lineFrom b l done) ≡ not (nextx .violated || nexty .violated)
+    tests : plain (beamAt b (upperx + lowx) (uppery + lowy)) (lineFrom b lastword l done) ≡ not (nextx .violated || nexty .violated)
     tests =
-        tested (beamAt b (upperx + lowx) (uppery + lowy)) (lineFrom b l done) there-x there-y
-        ∙ unviolated (goesOn (lineFrom b l done .motion)) (lineFrom b l done .escape && not (lineFrom b l done .continues)) (nextx .violated)
-        (nexty .violated) (rw (line-on b l done less) (lt-ltb 0 (done + 1) (omega arith))) (quiet b l done less)
+        tested (beamAt b (upperx + lowx) (uppery + lowy)) (lineFrom b lastword l done) there-x there-y
+        ∙ unviolated (goesOn (lineFrom b lastword l done .motion)) (lineFrom b lastword l done .escape && not (lineFrom b lastword l done .continues)) (nextx .violated)
+        (nexty .violated) (rw (line-on b lastword l done less) (lt-ltb 0 (done + 1) (omega arith))) (quiet b lastword l done less)
 
     -- a move that violates is not made
     pub edge : (nextx .violated || nexty .violated) ≡ true → Shows
-    edge e = violates (a .far) some (next b l done) (tests ∙ rw e)
+    edge e = violates (a .far) some (next b lastword l done) (tests ∙ rw e)
 
     -- any other, with what it lights
-    module _ (e : (nextx .violated || nexty .violated) ≡ false) {lit : Lit} (el : lit ≡ litAt b (upperx + nextx .value) (uppery + nexty .value) (l .lit) false) where
-      plainly : plain (beamAt b (upperx + lowx) (uppery + lowy)) (lineFrom b l done) ≡ true
+    module _ (e : (nextx .violated || nexty .violated) ≡ false) {lit : Lit} (el : lit ≡ litAt b lastword (upperx + nextx .value) (uppery + nexty .value) (l .lit) false) where
+      plainly : plain (beamAt b (upperx + lowx) (uppery + lowy)) (lineFrom b lastword l done) ≡ true
       plainly = tests ∙ rw e
 
-      asked : lit ≡ litAt b (upperx + nextx .value) (uppery + nexty .value) (lineFrom b l done .asked) false
+      asked : lit ≡ litAt b (lineFrom b lastword l done .lastword) (upperx + nextx .value) (uppery + nexty .value) (lineFrom b lastword l done .asked) false
       unfolding lineMove
       asked = el
 
       -- without room for its point it is not made
       pub crammed : {value : ℕ} → lit ≡ Point value → length ps ≤ place → Shows
-      crammed u f = fills (a .far) some (next b l done) plainly there-x there-y asked (rw u (omega arith))
+      crammed u f = fills (a .far) some (next b lastword l done) plainly there-x there-y asked (rw u (omega arith))
 
       -- with room for it, it is made
       pub onwards : {ps′ : List ℕ} {place′ owedx′ owedy′ : ℕ} → Put lit ps place ps′ place′ →
           owedx′ ≡ pick (leb twice (owedx + 2 * l .magx)) (owedx + 2 * l .magx - twice) (owedx + 2 * l .magx) →
           owedy′ ≡ pick (leb twice (owedy + 2 * l .magy)) (owedy + 2 * l .magy - twice) (owedy + 2 * l .magy) →
-          Along b l ps₀ from limit placesx placesy reach last upperx uppery twice ps′ (nextx .value) (nexty .value) owedx′ owedy′ (done + 1) place′
+          Along b lastword l ps₀ from limit placesx placesy reach last upperx uppery twice ps′ (nextx .value) (nexty .value) owedx′ owedy′ (done + 1) place′
       onwards w ox oy =
           let g = line-bounds (a .far .good .motion .3) in
           record {
@@ -250,5 +251,5 @@ module _ {b : Base} {l : LineMotion} {ps₀ : List ℕ} {from limit placesx plac
             bounds = a .bounds;
             begun = omega (arith, a .begun);
             reached = omega arith;
-            far = rw (line-on b l done less) at (goes (a .far) some (next b l done) plainly there-x there-y asked w);
+            far = rw (line-on b lastword l done less) at (goes (a .far) some (next b lastword l done) plainly there-x there-y asked w);
           }

@@ -38,11 +38,11 @@ at b x y m = record { base = beamAt b x y; motion = m }
 
 -- what a plain move leaves at x and y
 abbrev pub there : Base → Move → ℕ → ℕ → Outcome
-there b v x y = record { registers = at b x y (v .motion); lit = litAt b x y (v .asked) false; stop = None }
+there b v x y = record { registers = at b x y (v .motion); lit = litAt b (v .lastword) x y (v .asked) false; stop = None }
 
 -- the point that it lights
 abbrev pub lights : Base → Move → Lit
-lights b v = litAt b (movedX b v .value) (movedY b v .value) (v .asked) false
+lights b v = litAt b (v .lastword) (movedX b v .value) (movedY b v .value) (v .asked) false
 
 -- what a plain move is, as facts
 pub record Plainly (b : Base) (v : Move) : Type 0 where
@@ -61,7 +61,7 @@ facts b v p =
 
 -- the beam arrives where nothing is violated and nothing escapes
 quietly : (b : Base) (v : Move) (x y : ℕ) (hx hy escape : Bool) → hx ≡ false → hy ≡ false → escape ≡ false →
-    arrived b (v .motion) (record { value = x; violated = hx }) (record { value = y; violated = hy }) (v .asked) escape ≡ there b v x y
+    arrived b (v .motion) (v .lastword) (record { value = x; violated = hx }) (record { value = y; violated = hy }) (v .asked) escape ≡ there b v x y
 unfolding arrived pick
 quietly b v x y hx hy escape ex ey e = rw (ex, ey, e) (simp (and-true, or-false))
 
@@ -145,7 +145,7 @@ module _ {n₀ : ℕ} {r₀ : Registers} {ps₀ : List ℕ} {place₀ : ℕ} {b 
 
     -- a plain move, with where the code arrives and what it lights
     module _ (p : plain (beamAt b x y) v ≡ true) {nextx nexty : Reached} (ex : movedX (beamAt b x y) v ≡ nextx) (ey : movedY (beamAt b x y) v ≡ nexty)
-        {lit : Lit} (el : lit ≡ litAt b (nextx .value) (nexty .value) (v .asked) false) where
+        {lit : Lit} (el : lit ≡ litAt b (v .lastword) (nextx .value) (nexty .value) (v .asked) false) where
       same-lit : lights (beamAt b x y) v ≡ lit
       unfolding litAt
       same-lit = rw (ex, ey) (sym el)
@@ -160,6 +160,6 @@ module _ {n₀ : ℕ} {r₀ : Registers} {ps₀ : List ℕ} {place₀ : ℕ} {b 
           record {
             size = length-sets ps place (points lit) ∙ h .size;
             room = rw length-sets (f .0);
-            good = rw (plainly (beamAt b x y) v p, ex, ey) at (displaced-good (at b x y m) v (h .good) q);
+            good = rw (plainly (beamAt b x y) v p, ex, ey) at (displaced-good (at b x y m) v (h .good) q .registers);
             whole = h .whole ∙ rw some (rw (same-lit, ex, ey) at (moves-on n′ (at b x y m) ps place v q p (rw same-lit (f .0))));
           }

@@ -22,8 +22,8 @@ use Rattle.move_sequence.specs.declared.Sequence.{Sequence}
 -- whether the same motion goes on behind a move: a line's last move ends it, or starts a vector continue over
 abbrev pub goesOn : Motion → Bool
 goesOn Nothing = false
-goesOn (Line l) = ltb 0 (l .done)
-goesOn (Bytes t) = true
+goesOn (Line lastword l) = ltb 0 (l .done)
+goesOn (Bytes lastword t) = true
 
 -- a move that goes on, escapes nothing and violates nothing
 unfoldable pub plain : Base → Move → Bool

@@ -9,6 +9,7 @@ ghost use Rattle.registers.specs.Good.{Good};
 ghost use Rattle.words.specs.Words.{pick};
 ghost use Rattle.beam.specs.DataWords.{beamAt};
 ghost use Rattle.move_sequence.specs.PlainMoves.{sequence, leaves};
+use addresses::DisplayAddress;
 use beam::Lit;
 use registers::Base;
 use registers::ByteMotion;
@@ -40,11 +41,11 @@ fn end(done: u16, moves: u16, limit: u32) -> u16
     requires { ⌜ (done < moves) × (moves ≤ 1023) ⌝ }
     ensures { λ r. ⌜ r ≡ pick (ltb limit (moves - 1 - done)) (done + limit) (moves - 1) ⌝ }
 {
-    let last = moves - 1;
-    if limit < ((last - done) as u32) {
+    let most = moves - 1;
+    if limit < ((most - done) as u32) {
         done + (limit as u16)
     } else {
-        last
+        most
     }
 }
 
@@ -57,9 +58,16 @@ fn left_over(reach: u32, twice: u32) -> u32
 
 // The plain moves of a line, at most `limit` of them. The upper bits of a coordinate stay, so the loop carries the low ones; and it carries what each axis has
 // left over, so that no move asks for a division.
-pub fn line_moves(b: Base, l: LineMotion, points: &mut [u32], from: usize, limit: u32) -> Sequence
-    requires { ⌜ Good (record { base = b; motion = Line l }) × (from ≤ length (now points)) ⌝ }
-    ensures { λ r. ⌜ leaves r (now (points .exit)) ≡ sequence limit (record { base = b; motion = Line l }) (now (points .entry)) from ⌝ }
+pub fn line_moves(
+    b: Base,
+    lastword: DisplayAddress,
+    l: LineMotion,
+    points: &mut [u64],
+    from: usize,
+    limit: u32,
+) -> Sequence
+    requires { ⌜ Good (record { base = b; motion = Line lastword l }) × (from ≤ length (now points)) ⌝ }
+    ensures { λ r. ⌜ leaves r (now (points .exit)) ≡ sequence limit (record { base = b; motion = Line lastword l }) (now (points .entry)) from ⌝ }
 {
     let placesx = paper::places(beam::field_x(b));
     let placesy = paper::places(beam::field_y(b));
@@ -82,7 +90,7 @@ pub fn line_moves(b: Base, l: LineMotion, points: &mut [u32], from: usize, limit
         let nextx = paper::wrapped(placesx, lowx, travelx, l.minusx);
         let nexty = paper::wrapped(placesy, lowy, travely, l.minusy);
         if nextx.violated | nexty.violated {
-            let rest = Motion::Line(LineMotion { done, ..l });
+            let rest = Motion::Line(lastword, LineMotion { done, ..l });
             return stays(
                 b,
                 upperx + lowx,
@@ -92,14 +100,21 @@ pub fn line_moves(b: Base, l: LineMotion, points: &mut [u32], from: usize, limit
                 limit - ((done - l.done) as u32),
             );
         }
-        match beam::lit_at(b, upperx + nextx.value, uppery + nexty.value, l.lit, false) {
+        match beam::lit_at(
+            b,
+            lastword,
+            upperx + nextx.value,
+            uppery + nexty.value,
+            l.lit,
+            false,
+        ) {
             Lit::Dark => {}
             Lit::Point(value) => {
                 if place < points.len() {
                     points[place] = value;
                     place += 1;
                 } else {
-                    let rest = Motion::Line(LineMotion { done, ..l });
+                    let rest = Motion::Line(lastword, LineMotion { done, ..l });
                     return stays(
                         b,
                         upperx + lowx,
@@ -117,7 +132,7 @@ pub fn line_moves(b: Base, l: LineMotion, points: &mut [u32], from: usize, limit
         owedy = left_over(reachy, twice);
         done += 1;
     }
-    let rest = Motion::Line(LineMotion { done, ..l });
+    let rest = Motion::Line(lastword, LineMotion { done, ..l });
     stays(
         b,
         upperx + lowx,
@@ -129,9 +144,16 @@ pub fn line_moves(b: Base, l: LineMotion, points: &mut [u32], from: usize, limit
 }
 
 // The plain moves of increment bytes, at most `limit` of them.
-pub fn byte_moves(b: Base, t: ByteMotion, points: &mut [u32], from: usize, limit: u32) -> Sequence
-    requires { ⌜ Good (record { base = b; motion = Bytes t }) × (from ≤ length (now points)) ⌝ }
-    ensures { λ r. ⌜ leaves r (now (points .exit)) ≡ sequence limit (record { base = b; motion = Bytes t }) (now (points .entry)) from ⌝ }
+pub fn byte_moves(
+    b: Base,
+    lastword: DisplayAddress,
+    t: ByteMotion,
+    points: &mut [u64],
+    from: usize,
+    limit: u32,
+) -> Sequence
+    requires { ⌜ Good (record { base = b; motion = Bytes lastword t }) × (from ≤ length (now points)) ⌝ }
+    ensures { λ r. ⌜ leaves r (now (points .exit)) ≡ sequence limit (record { base = b; motion = Bytes lastword t }) (now (points .entry)) from ⌝ }
 {
     let placesx = paper::places(beam::field_x(b));
     let placesy = paper::places(beam::field_y(b));
@@ -144,10 +166,10 @@ pub fn byte_moves(b: Base, t: ByteMotion, points: &mut [u32], from: usize, limit
     let mut place = from;
     let mut left = limit;
     while 0 < left {
-        let m = moves::byte_move(bytes, distance);
+        let m = moves::byte_move(lastword, bytes, distance);
         let after = m.motion;
         match after {
-            Motion::Bytes(next) => {
+            Motion::Bytes(_, next) => {
                 let nextx = paper::wrapped(placesx, lowx, m.travelx, m.minusx);
                 let nexty = paper::wrapped(placesy, lowy, m.travely, m.minusy);
                 if nextx.violated | nexty.violated | m.escape {
@@ -155,13 +177,14 @@ pub fn byte_moves(b: Base, t: ByteMotion, points: &mut [u32], from: usize, limit
                         b,
                         upperx + lowx,
                         uppery + lowy,
-                        Motion::Bytes(bytes),
+                        Motion::Bytes(lastword, bytes),
                         place,
                         left,
                     );
                 }
                 match beam::lit_at(
                     b,
+                    lastword,
                     upperx + nextx.value,
                     uppery + nexty.value,
                     m.asked,
@@ -177,7 +200,7 @@ pub fn byte_moves(b: Base, t: ByteMotion, points: &mut [u32], from: usize, limit
                                 b,
                                 upperx + lowx,
                                 uppery + lowy,
-                                Motion::Bytes(bytes),
+                                Motion::Bytes(lastword, bytes),
                                 place,
                                 left,
                             );
@@ -194,7 +217,7 @@ pub fn byte_moves(b: Base, t: ByteMotion, points: &mut [u32], from: usize, limit
                     b,
                     upperx + lowx,
                     uppery + lowy,
-                    Motion::Bytes(bytes),
+                    Motion::Bytes(lastword, bytes),
                     place,
                     left,
                 );
@@ -205,7 +228,7 @@ pub fn byte_moves(b: Base, t: ByteMotion, points: &mut [u32], from: usize, limit
         b,
         upperx + lowx,
         uppery + lowy,
-        Motion::Bytes(bytes),
+        Motion::Bytes(lastword, bytes),
         place,
         left,
     )

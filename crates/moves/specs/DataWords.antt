@@ -4,6 +4,7 @@ use Prim.Native.Nat.{ℕ, _+_, _-_, _/_, _%_}
 use mathlib.Core.Bool.{Bool, true, false, not, _&&_, _||_}
 use lib.Dec.{eqb, ltb, leb}
 use Rattle.words.specs.Words.{pick}
+use Rattle.addresses.specs.declared.DisplayAddress.{DisplayAddress}
 use Rattle.paper.specs.declared.Reached.{Reached}
 use Rattle.paper.specs.DataWords.{distance, dimension, moved, travel}
 use Rattle.registers.specs.declared.Base.{Base}
@@ -32,17 +33,19 @@ withDone l k =
       done = k;
     }
 
--- a line after one more move: k of n; a vector continue starts over at 0 after n, any other line ends
-unfoldable pub lineNext : LineMotion → Bool → Motion
-lineNext l continues =
-    pick (ltb (l .done + 1) (l .moves)) (Line (withDone l (l .done + 1))) (pick continues (Line (withDone l 0)) Nothing)
+-- a line after one more move: k of n; a vector continue starts over at 0 after n, any other line ends. "The motion registers must remember" the address of the
+-- command's last word (02, No. 5)
+unfoldable pub lineNext : DisplayAddress → LineMotion → Bool → Motion
+lineNext lastword l continues =
+    pick (ltb (l .done + 1) (l .moves)) (Line lastword (withDone l (l .done + 1)))
+    (pick continues (Line lastword (withDone l 0)) Nothing)
 
 -- a line's move: each axis goes the distance where the move adds to its offset; the escape takes effect with the last beat, which in a vector continue is the
 -- one that ends it
-unfoldable pub lineMove : LineMotion → ℕ → Bool → Move
-lineMove l s continues =
+unfoldable pub lineMove : DisplayAddress → LineMotion → ℕ → Bool → Move
+lineMove lastword l s continues =
     record {
-      motion = lineNext l continues;
+      motion = lineNext lastword l continues;
       travelx = travel (l .done) (l .magx) (l .moves) s;
       travely = travel (l .done) (l .magy) (l .moves) s;
       minusx = l .minusx;
@@ -50,14 +53,15 @@ lineMove l s continues =
       asked = l .lit;
       escape = l .escape && (leb (l .moves) (l .done + 1) || continues);
       continues = continues;
+      lastword = lastword;
     }
 
 -- bytes after one more move: the moves left, then the right byte; an escape in the left byte drops the right one (H)
-unfoldable pub byteNext : ByteMotion → Bool → Motion
-byteNext t escape =
-    pick (ltb 1 (t .moves)) (Bytes (record { word = t .word; moves = t .moves - 1; right = t .right }))
+unfoldable pub byteNext : DisplayAddress → ByteMotion → Bool → Motion
+byteNext lastword t escape =
+    pick (ltb 1 (t .moves)) (Bytes lastword (record { word = t .word; moves = t .moves - 1; right = t .right }))
     (pick (t .right || escape) Nothing
-    (Bytes (record { word = t .word; moves = movesAsked (byteAt (t .word) true); right = true })))
+    (Bytes lastword (record { word = t .word; moves = movesAsked (byteAt (t .word) true); right = true })))
 
 -- directions 0 to 7 run counterclockwise from right (01, Increment)
 abbrev pub leftward : ℕ → Bool
@@ -73,12 +77,12 @@ abbrev pub downward : ℕ → Bool
 downward d = leb 5 d && leb d 7
 
 -- a byte's move: bit 0 asks for the point, bits 3, 4, 5 are the direction (manual 2.2.2)
-unfoldable pub byteMove : ByteMotion → ℕ → Move
-byteMove t s =
+unfoldable pub byteMove : DisplayAddress → ByteMotion → ℕ → Move
+byteMove lastword t s =
     let byte = byteAt (t .word) (t .right) in
     let d = byte % 8 in
     record {
-      motion = byteNext t (escapes byte);
+      motion = byteNext lastword t (escapes byte);
       travelx = pick (leftward d || rightward d) s 0;
       travely = pick (upward d || downward d) s 0;
       minusx = leftward d;
@@ -86,13 +90,14 @@ byteMove t s =
       asked = eqb (byte / 32 % 2) 1;
       escape = escapes byte;
       continues = false;
+      lastword = lastword;
     }
 
 -- the next move of a motion; mode 3 is vector continue
 unfoldable pub nextMove : Motion → ℕ → ℕ → Moving
 nextMove Nothing mode scale = Still
-nextMove (Line l) mode scale = Going (lineMove l (distance scale) (eqb mode 3))
-nextMove (Bytes t) mode scale = Going (byteMove t (distance scale))
+nextMove (Line lastword l) mode scale = Going (lineMove lastword l (distance scale) (eqb mode 3))
+nextMove (Bytes lastword t) mode scale = Going (byteMove lastword t (distance scale))
 
 -- where a move takes each axis
 abbrev pub movedX : Base → Move → Reached
@@ -107,4 +112,4 @@ displaced b m =
     let x = movedX b m in
     let y = movedY b m in
     pick (m .continues && (x .violated || y .violated)) (stillEnd b (m .escape))
-    (arrived b (m .motion) x y (m .asked) (m .escape && not (m .continues)))
+    (arrived b (m .motion) (m .lastword) x y (m .asked) (m .escape && not (m .continues)))

@@ -2,14 +2,15 @@
 ghost use mathlib.Core.Path.{_≡_};
 ghost use Prim.Native.Nat.{_%_};
 ghost use Rattle.moves.specs.DataWords.{lineNext, lineMove, byteNext, leftward, rightward, upward, downward, byteMove, nextMove, displaced};
+use addresses::DisplayAddress;
 use beam::Outcome;
 use registers::Base;
 use registers::ByteMotion;
 use registers::LineMotion;
 use registers::Motion;
 
-// One move: how far each axis goes, whether a point is asked for, the motion after it and whether the command escapes with it. A move that
-// continues belongs to a vector continue.
+// One move: how far each axis goes, whether a point is asked for, the motion after it and whether the command escapes with it; and the address of the command's
+// last word. A move that continues belongs to a vector continue.
 pub struct Move {
     pub motion: Motion,
     pub travelx: u8,
@@ -19,6 +20,7 @@ pub struct Move {
     pub asked: bool,
     pub escape: bool,
     pub continues: bool,
+    pub lastword: DisplayAddress,
 }
 
 pub enum Moving {
@@ -27,26 +29,29 @@ pub enum Moving {
 }
 
 // A line after one more move.
-fn line_next(l: LineMotion, continues: bool) -> Motion
-    ensures { λ r. ⌜ r ≡ lineNext l continues ⌝ }
+fn line_next(lastword: DisplayAddress, l: LineMotion, continues: bool) -> Motion
+    ensures { λ r. ⌜ r ≡ lineNext lastword l continues ⌝ }
 {
     // In 32 bits, where the sum fits whatever arrives.
     if (l.done as u32) + 1 < (l.moves as u32) {
-        Motion::Line(LineMotion {
-            done: l.done + 1,
-            ..l
-        })
+        Motion::Line(
+            lastword,
+            LineMotion {
+                done: l.done + 1,
+                ..l
+            },
+        )
     } else if continues {
-        Motion::Line(LineMotion { done: 0, ..l })
+        Motion::Line(lastword, LineMotion { done: 0, ..l })
     } else {
         Motion::Nothing
     }
 }
 
-fn line_move(l: LineMotion, distance: u8, continues: bool) -> Move
-    ensures { λ r. ⌜ r ≡ lineMove l distance continues ⌝ }
+fn line_move(lastword: DisplayAddress, l: LineMotion, distance: u8, continues: bool) -> Move
+    ensures { λ r. ⌜ r ≡ lineMove lastword l distance continues ⌝ }
 {
-    let motion = line_next(l, continues);
+    let motion = line_next(lastword, l, continues);
     let travelx = paper::travel(l.done, l.magx, l.moves, distance);
     let travely = paper::travel(l.done, l.magy, l.moves, distance);
     let last = (l.moves as u32) <= (l.done as u32) + 1;
@@ -59,28 +64,34 @@ fn line_move(l: LineMotion, distance: u8, continues: bool) -> Move
         asked: l.lit,
         escape: l.escape & (last | continues),
         continues,
+        lastword,
     }
 }
 
 // Increment bytes after one more move.
-fn byte_next(t: ByteMotion, escape: bool) -> Motion
-    ensures { λ r. ⌜ r ≡ byteNext t escape ⌝ }
+fn byte_next(lastword: DisplayAddress, t: ByteMotion, escape: bool) -> Motion
+    ensures { λ r. ⌜ r ≡ byteNext lastword t escape ⌝ }
 {
     if 1 < t.moves {
-        Motion::Bytes(ByteMotion {
-            word: t.word,
-            moves: t.moves - 1,
-            right: t.right,
-        })
+        Motion::Bytes(
+            lastword,
+            ByteMotion {
+                moves: t.moves - 1,
+                ..t
+            },
+        )
     } else if t.right | escape {
         Motion::Nothing
     } else {
         let moves = registers::moves_asked(registers::byte_at(t.word, true));
-        Motion::Bytes(ByteMotion {
-            word: t.word,
-            moves,
-            right: true,
-        })
+        Motion::Bytes(
+            lastword,
+            ByteMotion {
+                moves,
+                right: true,
+                ..t
+            },
+        )
     }
 }
 
@@ -126,12 +137,12 @@ fn directed(byte: u16) -> Direction
     }
 }
 
-pub fn byte_move(t: ByteMotion, distance: u8) -> Move
-    ensures { λ r. ⌜ r ≡ byteMove t distance ⌝ }
+pub fn byte_move(lastword: DisplayAddress, t: ByteMotion, distance: u8) -> Move
+    ensures { λ r. ⌜ r ≡ byteMove lastword t distance ⌝ }
 {
     let byte = registers::byte_at(t.word, t.right);
     let escape = registers::escapes(byte);
-    let motion = byte_next(t, escape);
+    let motion = byte_next(lastword, t, escape);
     let direction = directed(byte);
     let travelx = words::pick_u8(direction.left | direction.right, distance, 0);
     let travely = words::pick_u8(direction.up | direction.down, distance, 0);
@@ -144,6 +155,7 @@ pub fn byte_move(t: ByteMotion, distance: u8) -> Move
         asked: byte / 32 % 2 == 1,
         escape,
         continues: false,
+        lastword,
     }
 }
 
@@ -153,8 +165,12 @@ pub fn next_move(m: Motion, mode: u8, scale: u8) -> Moving
 {
     match m {
         Motion::Nothing => Moving::Still,
-        Motion::Line(l) => Moving::Going(line_move(l, paper::distance(scale), mode == 3)),
-        Motion::Bytes(t) => Moving::Going(byte_move(t, paper::distance(scale))),
+        Motion::Line(lastword, l) => {
+            Moving::Going(line_move(lastword, l, paper::distance(scale), mode == 3))
+        }
+        Motion::Bytes(lastword, t) => {
+            Moving::Going(byte_move(lastword, t, paper::distance(scale)))
+        }
     }
 }
 
@@ -168,6 +184,14 @@ pub fn displaced(b: Base, m: Move) -> Outcome
         beam::still_end(b, m.escape)
     } else {
         let motion = m.motion;
-        beam::arrived(b, motion, x, y, m.asked, m.escape & !m.continues)
+        beam::arrived(
+            b,
+            motion,
+            m.lastword,
+            x,
+            y,
+            m.asked,
+            m.escape & !m.continues,
+        )
     }
 }

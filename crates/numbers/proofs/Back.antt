@@ -2,32 +2,25 @@
 -- not fit have a mode out of range. Assumes nothing.
 use Prim.Native.Nat.{ℕ, _%_, _<_}
 use mathlib.Core.Path.{_≡_, refl, _∙_}
-use mathlib.Core.Bool.{Bool, true, false, _||_}
+use mathlib.Core.Bool.{true, false, _||_}
 use mathlib.Core.List.{List, _++_}
 use native.Mathlib.Nat.{mod-eq-of-lt}
 use native.Mathlib.Omega.{arith}
 use lib.Dec.{leb, eqb}
 use borrow.Author.Tests.{le-leb}
-use mir.Val.{boolByte}
 use Rattle.words.specs.Words.{pick}
 use Rattle.registers.specs.declared.Base.{Base}
 use Rattle.registers.specs.declared.Held.{Held}
 use Rattle.registers.specs.declared.Held.the-variants.{Empty, Holds}
 use Rattle.registers.specs.declared.Motion.{Motion}
-use Rattle.registers.specs.declared.Motion.the-variants.{Nothing, Line, Bytes}
 use Rattle.registers.specs.declared.Registers.{Registers}
 use Rattle.registers.specs.Registers.{inRange, heldInRange, numbersInRange, motionInRange}
 use Rattle.registers.specs.Good.{GoodBase, Good}
 use Rattle.registers.proofs.InRange.{good}
-use Rattle.numbers.specs.Numbers.{fits, narrowFit, flagsFit, heldFits, motionFits, heldOf, holds, heldWord, baseOf, motionOf, fitted, registersOf, motionRow, baseRow, rowOf}
-
-flag-back : (b : Bool) → eqb (boolByte b) 1 ≡ b
-flag-back true = refl
-flag-back false = refl
-
-flag-small : (b : Bool) → leb (boolByte b) 1 ≡ true
-flag-small true = refl
-flag-small false = refl
+use Rattle.motion_numbers.specs.MotionNumbers.{motionRow}
+use Rattle.motion_numbers.proofs.Rows.{flag-back, flag-small}
+use Rattle.motion_numbers.proofs.Motions.{motion-fits, motion-back}
+use Rattle.numbers.specs.Numbers.{fits, narrowFit, flagsFit, heldFits, heldOf, holds, heldWord, baseOf, fitted, registersOf, baseRow, rowOf}
 
 -- the held word reads back from its two numbers, which fit
 held-back : (h : Held) → pick (holds h) (Holds (heldWord h)) Empty ≡ h
@@ -53,18 +46,6 @@ flags-fit b m = simp flag-small
 held-fits : (b : Base) (m : List ℕ) → heldFits (baseRow b ++ m) ≡ true
 held-fits b m = simp flag-back (held-fit (b .held))
 
-motion-fits : (b : Base) (m : Motion) → motionFits (baseRow b ++ motionRow m) ≡ true
-unfolding motionFits motionRow pick
-motion-fits b Nothing = refl
-motion-fits b (Line l) = simp flag-small
-motion-fits b (Bytes t) = flag-small (t .right)
-
-motion-back : (b : Base) (m : Motion) → motionOf (baseRow b ++ motionRow m) ≡ m
-unfolding motionOf motionRow pick
-motion-back b Nothing = refl
-motion-back b (Line l) = simp flag-back
-motion-back b (Bytes t) = simp flag-back
-
 module _ (b : Base) (m : List ℕ) (g : GoodBase b) where
   narrow-fit : narrowFit (baseRow b ++ m) ≡ true
   narrow-fit = simp (narrow-small (b .mode) (omega (arith, g .mode)), narrow-small (b .scale) (omega (arith, g .scale)), narrow-small (b .intensity) (omega (arith, g .intensity)))
@@ -77,7 +58,7 @@ row-fits : (r : Registers) → Good r → fits (rowOf r) ≡ true
 unfolding fits rowOf
 row-fits r g =
     let m = motionRow (r .motion) in
-    rw (flags-fit (r .base) m, narrow-fit (r .base) m (g .base), held-fits (r .base) m, motion-fits (r .base) (r .motion))
+    rw (flags-fit (r .base) m, narrow-fit (r .base) m (g .base), held-fits (r .base) m, motion-fits (baseRow (r .base) ++ m) (r .motion) refl)
 
 pub fitting : (row : List ℕ) → fits row ≡ true → registersOf row ≡ fitted row
 unfolding registersOf pick
@@ -90,7 +71,7 @@ pub back : (r : Registers) → inRange r ≡ true → registersOf (rowOf r) ≡ 
 unfolding rowOf
 back r h =
     let g = good r h in
-    fitting (rowOf r) (row-fits r g) ∙ same (base-back (r .base) (motionRow (r .motion)) (g .base)) (motion-back (r .base) (r .motion))
+    fitting (rowOf r) (row-fits r g) ∙ same (base-back (r .base) (motionRow (r .motion)) (g .base)) (motion-back (rowOf r) (r .motion) refl)
 
 pub refused : (row : List ℕ) → fits row ≡ false → inRange (registersOf row) ≡ false
 unfolding registersOf pick inRange heldInRange numbersInRange motionInRange

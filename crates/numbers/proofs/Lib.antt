@@ -1,2 +1,2 @@
 mod Back
-pub mod Again
+mod Again

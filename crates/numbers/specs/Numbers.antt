@@ -1,50 +1,30 @@
--- Registers as a row of numbers, whose places are named in Places.antt. Which rows fit, the registers of a row, the row of registers, and what makes the row a
--- faithful form. Assumes nothing.
-use Prim.Native.Nat.{ℕ, _+_, _-_, _%_}
+-- Registers as a row of numbers, whose places are named in Places.antt; the motion's part of it is motion_numbers'. Which rows fit, the registers of a row, the row
+-- of registers, and what makes the row a faithful form. Assumes nothing.
+use Prim.Native.Nat.{ℕ, _%_}
 use mathlib.Core.Bool.{Bool, true, false, _&&_, _||_}
 use mathlib.Core.List.{List, [], _∷_, _++_}
 use mathlib.Core.Path.{_≡_}
 use lib.Dec.{leb, eqb}
-use lib.ListN.{length, getD, take, replicate}
+use lib.ListN.{length}
 use mir.Val.{boolByte}
 use Rattle.words.specs.Words.{pick}
 use Rattle.addresses.specs.Addresses.{address, pointer}
 use Rattle.registers.specs.declared.Base.{Base}
 use Rattle.registers.specs.declared.Held.{Held}
 use Rattle.registers.specs.declared.Held.the-variants.{Empty, Holds}
-use Rattle.registers.specs.declared.LineMotion.{LineMotion}
-use Rattle.registers.specs.declared.ByteMotion.{ByteMotion}
-use Rattle.registers.specs.declared.Motion.{Motion}
-use Rattle.registers.specs.declared.Motion.the-variants.{Nothing, Line, Bytes}
+use Rattle.registers.specs.declared.Motion.the-variants.{Nothing}
 use Rattle.registers.specs.declared.Registers.{Registers}
 use Rattle.registers.specs.Registers.{inRange, freshBase}
 use Rattle.registers.specs.With.{withMode}
-use Rattle.numbers.specs.Places.{ROW, ADDRESS, POINTER, X, Y, STATE, MODE, SCALE, INTENSITY, PEN-ENABLE, PEN-HOLD, PEN-SENSE, BLINK, IDLE, BUTTONS, HIT-1, HIT-2, INTERNAL-STOP-FLAG, EXTERNAL-STOP-FLAG, VERTICAL-EDGE-FLAG, HORIZONTAL-EDGE-FLAG, PEN-FLAG, MANUAL-INTERRUPT-FLAG, CONDITIONS, RUNNING, STOP-REQUEST, HELD, HELD-WORD}
-use Rattle.numbers.specs.Places.{flags, narrows, lineFlags, bytesFlags}
-use Rattle.numbers.specs.Places.{KIND, LINE-MINUS-Y, LINE-MINUS-X, LINE-MAGNITUDE-Y, LINE-MAGNITUDE-X, LINE-MOVES, LINE-DONE, LINE-LIT, LINE-ESCAPE, BYTES-WORD, BYTES-SIDE, BYTES-MOVES-LEFT}
-
--- the number at a place of a row, from 0
-abbrev pub at : List ℕ → ℕ → ℕ
-at row place = getD row place 0
-
--- a flag is 1 where it is on
-abbrev pub on : List ℕ → ℕ → Bool
-on row place = eqb (at row place) 1
+use Rattle.motion_numbers.specs.MotionNumbers.{ROW, at, on, flag, tested, kept, motionFits, motionOf, motionRow}
+use Rattle.numbers.specs.Places.{ADDRESS, POINTER, X, Y, STATE, MODE, SCALE, INTENSITY, PEN-ENABLE, PEN-HOLD, PEN-SENSE, BLINK, IDLE, BUTTONS, HIT-1, HIT-2, INTERNAL-STOP-FLAG, EXTERNAL-STOP-FLAG, VERTICAL-EDGE-FLAG, HORIZONTAL-EDGE-FLAG, PEN-FLAG, MANUAL-INTERRUPT-FLAG, CONDITIONS, RUNNING, STOP-REQUEST, HELD, HELD-WORD}
+use Rattle.numbers.specs.Places.{flags, narrows}
 
 -- WHICH ROWS FIT: every number is one that its register can hold; what is not named here may be any number of 16 bits
-
--- 0 or 1
-abbrev pub flag : List ℕ → ℕ → Bool
-flag row place = leb (at row place) 1
 
 -- a number of 8 bits
 abbrev pub narrow : List ℕ → ℕ → Bool
 narrow row place = leb (at row place) 255
-
--- a test at one place after another, behind what was tested before
-abbrev pub tested : (ℕ → Bool) → Bool → List ℕ → Bool
-tested test before [] = before
-tested test before (place ∷ places) = tested test (before && test place) places
 
 -- the state and the flags of the registers
 abbrev pub flagsFit : List ℕ → Bool
@@ -57,19 +37,6 @@ narrowFit row = tested (narrow row) true narrows
 -- where no word is held there is none to tell: the word is 0
 abbrev pub heldFits : List ℕ → Bool
 heldFits row = on row HELD || eqb (at row HELD-WORD) 0
-
--- the two signs of a line, lit and escape
-abbrev pub lineFits : List ℕ → Bool
-lineFits row = tested (flag row) true lineFlags
-
--- the side of bytes
-abbrev pub bytesFit : List ℕ → Bool
-bytesFit row = tested (flag row) true bytesFlags
-
--- the kind of motion is one of the three, and the flags of a motion of that kind are 0 or 1
-unfoldable pub motionFits : List ℕ → Bool
-motionFits row =
-    pick (eqb (at row KIND) 0) true (pick (eqb (at row KIND) 1) (lineFits row) (pick (eqb (at row KIND) 2) (bytesFit row) false))
 
 -- the whole row
 unfoldable pub fits : List ℕ → Bool
@@ -113,28 +80,6 @@ baseOf row =
       held = heldOf row;
     }
 
--- a line's numbers: signs and magnitudes, y first; moves and done; lit and escape
-abbrev pub lineOf : List ℕ → LineMotion
-lineOf row =
-    record {
-      magx = at row LINE-MAGNITUDE-X;
-      magy = at row LINE-MAGNITUDE-Y;
-      minusx = on row LINE-MINUS-X;
-      minusy = on row LINE-MINUS-Y;
-      lit = on row LINE-LIT;
-      escape = on row LINE-ESCAPE;
-      moves = at row LINE-MOVES;
-      done = at row LINE-DONE;
-    }
-
--- the numbers of bytes: word, side, moves left
-abbrev pub bytesOf : List ℕ → ByteMotion
-bytesOf row = record { word = at row BYTES-WORD; moves = at row BYTES-MOVES-LEFT; right = on row BYTES-SIDE }
-
--- the motion, by its kind
-unfoldable pub motionOf : List ℕ → Motion
-motionOf row = pick (eqb (at row KIND) 1) (Line (lineOf row)) (pick (eqb (at row KIND) 2) (Bytes (bytesOf row)) Nothing)
-
 -- the registers of a row that fits
 abbrev pub fitted : List ℕ → Registers
 fitted row = record { base = baseOf row; motion = motionOf row }
@@ -148,26 +93,6 @@ unfoldable pub registersOf : List ℕ → Registers
 registersOf row = pick (fits row) (fitted row) unfit
 
 -- THE ROW OF REGISTERS
-
--- 0 on every place from one on
-abbrev pub zeros : ℕ → List ℕ
-zeros place = replicate (ROW - place) 0
-
--- the kind, the motion's numbers, and 0 for what is left
-unfoldable pub motionRow : Motion → List ℕ
-motionRow Nothing = 0 ∷ zeros (KIND + 1)
-motionRow (Line l) =
-    1
-    ∷ boolByte (l .minusy)
-    ∷ boolByte (l .minusx)
-    ∷ l .magy
-    ∷ l .magx
-    ∷ l .moves
-    ∷ l .done
-    ∷ boolByte (l .lit)
-    ∷ boolByte (l .escape)
-    ∷ zeros (LINE-ESCAPE + 1)
-motionRow (Bytes t) = 2 ∷ t .word ∷ boolByte (t .right) ∷ t .moves ∷ zeros (BYTES-MOVES-LEFT + 1)
 
 -- whether a word is held
 abbrev pub holds : Held → Bool
@@ -214,14 +139,6 @@ baseRow b =
 -- the whole row
 unfoldable pub rowOf : Registers → List ℕ
 rowOf r = baseRow (r .base) ++ motionRow (r .motion)
-
--- how many numbers of a row a kind of motion uses: a line has eight of its own, bytes have three
-unfoldable pub used : ℕ → ℕ
-used kind = pick (eqb kind 1) (LINE-ESCAPE + 1) (pick (eqb kind 2) (BYTES-MOVES-LEFT + 1) (KIND + 1))
-
--- a row with 0 on every place that its kind of motion does not use
-abbrev pub kept : List ℕ → List ℕ
-kept row = take (used (at row KIND)) row ++ zeros (used (at row KIND))
 
 -- THE ROW IS FAITHFUL
 

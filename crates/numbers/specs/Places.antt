@@ -1,13 +1,7 @@
--- The places of a row of numbers, from 0: the registers in the order of the replay format, the kind of motion, and the motion's own numbers behind it. Then which
--- of them are flags, and which have 8 bits. Assumes nothing.
-use Prim.Native.Nat.{ℕ, _+_}
+-- The places of the registers in a row of numbers, from 0, in the order of the replay format; those of the motion behind them are named in motion_numbers. Then
+-- which of them are flags, and which have 8 bits. Assumes nothing.
+use Prim.Native.Nat.{ℕ}
 use mathlib.Core.List.{List, [], _∷_}
-
--- how many places there are
-abbrev pub ROW : ℕ
-ROW = 36
-
--- THE REGISTERS
 
 abbrev pub ADDRESS : ℕ
 ADDRESS = 0
@@ -91,47 +85,6 @@ HELD = 25
 abbrev pub HELD-WORD : ℕ
 HELD-WORD = 26
 
--- the kind of motion: 0 nothing, 1 a line, 2 bytes
-abbrev pub KIND : ℕ
-KIND = 27
-
--- THE NUMBERS OF A LINE
-
-abbrev pub LINE-MINUS-Y : ℕ
-LINE-MINUS-Y = KIND + 1
-
-abbrev pub LINE-MINUS-X : ℕ
-LINE-MINUS-X = KIND + 2
-
-abbrev pub LINE-MAGNITUDE-Y : ℕ
-LINE-MAGNITUDE-Y = KIND + 3
-
-abbrev pub LINE-MAGNITUDE-X : ℕ
-LINE-MAGNITUDE-X = KIND + 4
-
-abbrev pub LINE-MOVES : ℕ
-LINE-MOVES = KIND + 5
-
-abbrev pub LINE-DONE : ℕ
-LINE-DONE = KIND + 6
-
-abbrev pub LINE-LIT : ℕ
-LINE-LIT = KIND + 7
-
-abbrev pub LINE-ESCAPE : ℕ
-LINE-ESCAPE = KIND + 8
-
--- THE NUMBERS OF BYTES
-
-abbrev pub BYTES-WORD : ℕ
-BYTES-WORD = KIND + 1
-
-abbrev pub BYTES-SIDE : ℕ
-BYTES-SIDE = KIND + 2
-
-abbrev pub BYTES-MOVES-LEFT : ℕ
-BYTES-MOVES-LEFT = KIND + 3
-
 -- FLAGS AND NUMBERS OF 8 BITS
 
 -- the state and the flags of the registers
@@ -158,11 +111,3 @@ flags =
 
 abbrev pub narrows : List ℕ
 narrows = MODE ∷ SCALE ∷ INTENSITY ∷ []
-
--- the two signs of a line, lit and escape
-abbrev pub lineFlags : List ℕ
-lineFlags = LINE-MINUS-Y ∷ LINE-MINUS-X ∷ LINE-LIT ∷ LINE-ESCAPE ∷ []
-
--- the side of bytes
-abbrev pub bytesFlags : List ℕ
-bytesFlags = BYTES-SIDE ∷ []

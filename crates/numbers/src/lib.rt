@@ -1,23 +1,21 @@
-// Registers as a row of numbers, for callers that have no other form: the registers in the order of the replay format, the kind of motion, and the motion's own
-// numbers.
+// Registers as a row of numbers, for callers that have no other form: the registers in the order of the replay format, and behind them the numbers of the motion
+// (crate `motion_numbers`).
 ghost use mathlib.Core.Path.{_≡_};
 ghost use mathlib.Core.List.{_++_};
-ghost use Rattle.numbers.specs.Places.{KIND};
 ghost use Rattle.addresses.specs.Addresses.{address, pointer};
 ghost use Rattle.registers.specs.With.{withAddress, withPointer, withHeld};
 ghost use Rattle.registers.specs.declared.Held.the-variants.{Empty};
-ghost use Rattle.numbers.specs.Numbers.{flagsFit, narrowFit, heldFits, lineFits, motionFits, fits, heldOf, baseOf, lineOf, bytesOf, motionOf, unfit, registersOf, zeros, holds, heldWord, baseRow, rowOf, used, Faithful};
+ghost use Rattle.motion_numbers.specs.MotionNumbers.{KIND, zeros};
+ghost use Rattle.numbers.specs.Numbers.{flagsFit, narrowFit, heldFits, fits, heldOf, baseOf, unfit, registersOf, holds, heldWord, baseRow, rowOf, Faithful};
 use addresses::DisplayAddress;
 use addresses::PushdownPointer;
 use registers::Base;
-use registers::ByteMotion;
 use registers::Held;
-use registers::LineMotion;
 use registers::Motion;
 use registers::Registers;
 
 // How many numbers a row has.
-pub const ROW: usize = 36;
+pub const ROW: usize = motion_numbers::ROW;
 
 // The place of each, from 0. First the registers.
 pub const ADDRESS: usize = 0;
@@ -75,32 +73,8 @@ pub const HELD: usize = 25;
 
 pub const HELD_WORD: usize = 26;
 
-// The kind of motion: 0 nothing, 1 a line, 2 bytes.
-pub const KIND: usize = 27;
-
-// The numbers of a line.
-pub const LINE_MINUS_Y: usize = KIND + 1;
-
-pub const LINE_MINUS_X: usize = KIND + 2;
-
-pub const LINE_MAGNITUDE_Y: usize = KIND + 3;
-
-pub const LINE_MAGNITUDE_X: usize = KIND + 4;
-
-pub const LINE_MOVES: usize = KIND + 5;
-
-pub const LINE_DONE: usize = KIND + 6;
-
-pub const LINE_LIT: usize = KIND + 7;
-
-pub const LINE_ESCAPE: usize = KIND + 8;
-
-// The numbers of bytes.
-pub const BYTES_WORD: usize = KIND + 1;
-
-pub const BYTES_SIDE: usize = KIND + 2;
-
-pub const BYTES_MOVES_LEFT: usize = KIND + 3;
+// The kind of motion, behind which its own numbers stand.
+pub const KIND: usize = motion_numbers::KIND;
 
 // Whether each flag of the registers is 0 or 1.
 fn flags_fit(row: [u16; ROW]) -> bool
@@ -139,33 +113,11 @@ fn narrow_fit(row: [u16; ROW]) -> bool
     (row[MODE] <= 255) & (row[SCALE] <= 255) & (row[INTENSITY] <= 255)
 }
 
-// Whether the flags of a line are 0 or 1.
-fn line_fits(row: [u16; ROW]) -> bool
-    ensures { λ r. ⌜ r ≡ lineFits row ⌝ }
-{
-    (row[LINE_MINUS_Y] <= 1)
-        & (row[LINE_MINUS_X] <= 1)
-        & (row[LINE_LIT] <= 1)
-        & (row[LINE_ESCAPE] <= 1)
-}
-
-// Whether the kind is one of the three, and the flags of its motion are 0 or 1.
-fn motion_fits(row: [u16; ROW]) -> bool
-    ensures { λ r. ⌜ r ≡ motionFits row ⌝ }
-{
-    match row[KIND] {
-        0 => true,
-        1 => line_fits(row),
-        2 => row[BYTES_SIDE] <= 1,
-        _ => false,
-    }
-}
-
 // Whether every number of a row is one that its register can hold.
 pub fn fits(row: [u16; ROW]) -> bool
     ensures { λ r. ⌜ r ≡ fits row ⌝ }
 {
-    flags_fit(row) & narrow_fit(row) & held_fits(row) & motion_fits(row)
+    flags_fit(row) & narrow_fit(row) & held_fits(row) & motion_numbers::motion_fits(row)
 }
 
 // The held word of a row.
@@ -224,41 +176,6 @@ fn base_of(row: [u16; ROW]) -> Base
     )
 }
 
-fn line_of(row: [u16; ROW]) -> LineMotion
-    ensures { λ r. ⌜ r ≡ lineOf row ⌝ }
-{
-    LineMotion {
-        minusy: row[LINE_MINUS_Y] == 1,
-        minusx: row[LINE_MINUS_X] == 1,
-        magy: row[LINE_MAGNITUDE_Y],
-        magx: row[LINE_MAGNITUDE_X],
-        moves: row[LINE_MOVES],
-        done: row[LINE_DONE],
-        lit: row[LINE_LIT] == 1,
-        escape: row[LINE_ESCAPE] == 1,
-    }
-}
-
-fn bytes_of(row: [u16; ROW]) -> ByteMotion
-    ensures { λ r. ⌜ r ≡ bytesOf row ⌝ }
-{
-    ByteMotion {
-        word: row[BYTES_WORD],
-        right: row[BYTES_SIDE] == 1,
-        moves: row[BYTES_MOVES_LEFT],
-    }
-}
-
-fn motion_of(row: [u16; ROW]) -> Motion
-    ensures { λ r. ⌜ r ≡ motionOf row ⌝ }
-{
-    match row[KIND] {
-        1 => Motion::Line(line_of(row)),
-        2 => Motion::Bytes(bytes_of(row)),
-        _ => Motion::Nothing,
-    }
-}
-
 // The fresh registers with a mode out of range.
 fn unfit() -> Registers
     ensures { λ r. ⌜ r ≡ unfit ⌝ }
@@ -277,7 +194,7 @@ pub fn registers_of(row: [u16; ROW]) -> Registers
 {
     if fits(row) {
         let base = base_of(row);
-        let motion = motion_of(row);
+        let motion = motion_numbers::motion_of(row);
         Registers { base, motion }
     } else {
         unfit()
@@ -338,7 +255,7 @@ fn base_row(b: Base, display: u16, pushdown: u16) -> [u16; ROW]
     row
 }
 
-// The row of registers.
+// The row of registers. The motion's numbers are stored here: by a function of `motion_numbers`, the compiler made a longer run of it.
 pub fn row_of(r: Registers) -> [u16; ROW]
     ensures { λ q. ⌜ q ≡ rowOf r ⌝ }
 {
@@ -350,36 +267,27 @@ pub fn row_of(r: Registers) -> [u16; ROW]
     row[HELD_WORD] = held_word(held);
     match motion {
         Motion::Nothing => {}
-        Motion::Line(l) => {
+        Motion::Line(lastword, l) => {
             row[KIND] = 1;
-            row[LINE_MINUS_Y] = l.minusy as u16;
-            row[LINE_MINUS_X] = l.minusx as u16;
-            row[LINE_MAGNITUDE_Y] = l.magy;
-            row[LINE_MAGNITUDE_X] = l.magx;
-            row[LINE_MOVES] = l.moves;
-            row[LINE_DONE] = l.done;
-            row[LINE_LIT] = l.lit as u16;
-            row[LINE_ESCAPE] = l.escape as u16;
+            row[motion_numbers::LINE_MINUS_Y] = l.minusy as u16;
+            row[motion_numbers::LINE_MINUS_X] = l.minusx as u16;
+            row[motion_numbers::LINE_MAGNITUDE_Y] = l.magy;
+            row[motion_numbers::LINE_MAGNITUDE_X] = l.magx;
+            row[motion_numbers::LINE_MOVES] = l.moves;
+            row[motion_numbers::LINE_DONE] = l.done;
+            row[motion_numbers::LINE_LIT] = l.lit as u16;
+            row[motion_numbers::LINE_ESCAPE] = l.escape as u16;
+            row[motion_numbers::LINE_LAST_WORD] = lastword.number();
         }
-        Motion::Bytes(t) => {
+        Motion::Bytes(lastword, t) => {
             row[KIND] = 2;
-            row[BYTES_WORD] = t.word;
-            row[BYTES_SIDE] = t.right as u16;
-            row[BYTES_MOVES_LEFT] = t.moves;
+            row[motion_numbers::BYTES_WORD] = t.word;
+            row[motion_numbers::BYTES_SIDE] = t.right as u16;
+            row[motion_numbers::BYTES_MOVES_LEFT] = t.moves;
+            row[motion_numbers::BYTES_LAST_WORD] = lastword.number();
         }
     }
     row
-}
-
-// How many numbers of a row a kind of motion uses.
-pub fn used(kind: u16) -> usize
-    ensures { λ r. ⌜ r ≡ used kind ⌝ }
-{
-    match kind {
-        1 => LINE_ESCAPE + 1,
-        2 => BYTES_MOVES_LEFT + 1,
-        _ => KIND + 1,
-    }
 }
 
 // Registers in range come back from their row, a row that does not fit is refused, and a row whose registers are in range comes back from them. It does nothing:

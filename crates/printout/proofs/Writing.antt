@@ -5,7 +5,7 @@ use mathlib.Core.List.{List, [], _∷_}
 use native.Mathlib.Omega.{arith}
 use lib.ListN.{length, getD, drop, length-append}
 use lib.Seq.{drop-cons, drop-length}
-use Rattle.text.specs.Text.{Filled, bytes, puts}
+use Rattle.text.specs.Text.{Filled, bytes, puts, octalWord, octalAddress}
 use Rattle.points.specs.Points.{pointX, pointY, pointIntensity, pointBlink}
 use Rattle.text.proofs.Puts.{behind, length-decimal, length-number}
 use Rattle.printout.specs.Printout.{pointLine, pointLines, endingLine, badLine}
@@ -32,13 +32,14 @@ module _ (n : ℕ) (ps : List ℕ) (i : ℕ) (f : Filled) where
   unfolding puts
   lines-over h k = let e : i ≡ length ps = omega arith in rw (e, drop-length ps, lines-none)
 
-length-point-line : (p : ℕ) → length (pointLine p) ≤ 24
-unfolding pointLine
+-- 24 bytes for four numbers, and six for the address and its end
+length-point-line : (p : ℕ) → length (pointLine p) ≤ 30
+unfolding pointLine octalAddress octalWord
 length-point-line p =
     simp length-append
-    (omega (arith, length-number (pointX p) 32, length-number (pointY p) 32, length-number (pointIntensity p) 32, length-number (pointBlink p) 10))
+    (omega (arith, length-number (pointX p) 32, length-number (pointY p) 32, length-number (pointIntensity p) 32, length-number (pointBlink p) 32))
 
-pub length-point-lines : (n : ℕ) (ps : List ℕ) → length (pointLines n ps) ≤ 24 * length ps
+pub length-point-lines : (n : ℕ) (ps : List ℕ) → length (pointLines n ps) ≤ 30 * length ps
 unfolding pointLines
 length-point-lines zero ps = omega arith
 length-point-lines (suc n) [] = omega arith

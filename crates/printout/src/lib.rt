@@ -3,17 +3,19 @@ ghost use mathlib.Core.Path.{_≡_};
 ghost use Rattle.text.specs.Text.{filled, puts};
 ghost use Rattle.printout.specs.Printout.{pointLine, pointLines, endingLine, badLine};
 
-pub fn put_point(point: u32, text: &mut [u8], place: usize) -> usize
+pub fn put_point(point: u64, text: &mut [u8], place: usize) -> usize
     ensures { λ r. ⌜ filled r (now (text .exit)) ≡ puts (pointLine point) (filled place (now (text .entry))) ⌝ }
 {
     let x = text::put_number(points::point_x(point), b' ', text, place);
     let y = text::put_number(points::point_y(point), b' ', text, x);
     let intensity = text::put_number(points::point_intensity(point), b' ', text, y);
-    text::put_number(points::point_blink(point), b'\n', text, intensity)
+    let blink = text::put_number(points::point_blink(point), b' ', text, intensity);
+    let word = text::put_address(points::point_word(point), text, blink);
+    text::put(b'\n', text, word)
 }
 
 // The first points of a list, as many as are counted.
-pub fn put_points(points: &[u32], count: usize, text: &mut [u8], place: usize) -> usize
+pub fn put_points(points: &[u64], count: usize, text: &mut [u8], place: usize) -> usize
     ensures { λ r. ⌜ filled r (now (text .exit)) ≡ puts (pointLines count (now (points .entry))) (filled place (now (text .entry))) ⌝ }
 {
     let mut at = place;

@@ -79,15 +79,17 @@ good-bytes t h =
 good-motion : (m : Motion) (datastate : Bool) (mode : ℕ) → motionInRange m datastate mode ≡ true → GoodMotion m datastate mode
 unfolding motionInRange
 good-motion Nothing datastate mode h = tt
-good-motion (Line l) datastate mode h =
+good-motion (Line lastword l) datastate mode h =
+    let h4 = both _ _ h in
+    let h3 = both _ _ (h4 .0) in
+    let h2 = both _ _ (h3 .0) in
+    let h1 = both _ _ (h2 .0) in
+    (h1 .0, leb-true _ _ (h1 .1), leb-true _ _ (h2 .1), good-line l (h3 .1), ltb-true _ _ (h4 .1))
+good-motion (Bytes lastword t) datastate mode h =
     let h3 = both _ _ h in
     let h2 = both _ _ (h3 .0) in
     let h1 = both _ _ (h2 .0) in
-    (h1 .0, leb-true _ _ (h1 .1), leb-true _ _ (h2 .1), good-line l (h3 .1))
-good-motion (Bytes t) datastate mode h =
-    let h2 = both _ _ h in
-    let h1 = both _ _ (h2 .0) in
-    (h1 .0, eqb-true _ _ (h1 .1), good-bytes t (h2 .1))
+    (h1 .0, eqb-true _ _ (h1 .1), good-bytes t (h2 .1), ltb-true _ _ (h3 .1))
 
 pub good : (r : Registers) → inRange r ≡ true → Good r
 unfolding inRange
@@ -134,8 +136,8 @@ formed-bytes g = rw (lt-ltb _ _ (g .word), le-leb _ _ (g .some), le-leb _ _ (g .
 formed-motion : (m : Motion) (datastate : Bool) (mode : ℕ) → GoodMotion m datastate mode → motionInRange m datastate mode ≡ true
 unfolding motionInRange
 formed-motion Nothing datastate mode g = refl
-formed-motion (Line l) datastate mode g = rw (g .0, le-leb _ _ (g .1), le-leb _ _ (g .2), formed-line (g .3))
-formed-motion (Bytes t) datastate mode g = rw (g .0, eq-eqb _ _ (g .1), formed-bytes (g .2))
+formed-motion (Line lastword l) datastate mode g = rw (g .0, le-leb _ _ (g .1), le-leb _ _ (g .2), formed-line (g .3), lt-ltb _ _ (g .4))
+formed-motion (Bytes lastword t) datastate mode g = rw (g .0, eq-eqb _ _ (g .1), formed-bytes (g .2), lt-ltb _ _ (g .3))
 
 pub formed : (r : Registers) → Good r → inRange r ≡ true
 unfolding inRange

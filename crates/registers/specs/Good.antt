@@ -49,8 +49,8 @@ pub record GoodBytes (t : ByteMotion) : Type 0 where
 
 abbrev pub GoodMotion : Motion → Bool → ℕ → Type 0
 GoodMotion Nothing datastate mode = Unit {0}
-GoodMotion (Line l) datastate mode = (datastate ≡ true) × (2 ≤ mode) × (mode ≤ 4) × GoodLine l
-GoodMotion (Bytes t) datastate mode = (datastate ≡ true) × (mode ≡ 1) × GoodBytes t
+GoodMotion (Line lastword l) datastate mode = (datastate ≡ true) × (2 ≤ mode) × (mode ≤ 4) × GoodLine l × (lastword .0 < 32768)
+GoodMotion (Bytes lastword t) datastate mode = (datastate ≡ true) × (mode ≡ 1) × GoodBytes t × (lastword .0 < 32768)
 
 pub record Good (r : Registers) : Type 0 where
   pub base : GoodBase (r .base)

@@ -65,11 +65,12 @@ bytesInRange t =
     && leb (t .moves) (movesAsked (byteAt (t .word) (t .right)))
     && not (t .right && escapes (byteAt (t .word) false))
 
--- a line only in data state and modes 2, 3, 4; bytes only in data state and mode 1
+-- a line only in data state and modes 2, 3, 4; bytes only in data state and mode 1; "the 15-bit address of the last word of the command", which "the motion
+-- registers must remember" (02, No. 5)
 unfoldable pub motionInRange : Motion → Bool → ℕ → Bool
 motionInRange Nothing datastate mode = true
-motionInRange (Line l) datastate mode = datastate && leb 2 mode && leb mode 4 && lineInRange l
-motionInRange (Bytes t) datastate mode = datastate && eqb mode 1 && bytesInRange t
+motionInRange (Line lastword l) datastate mode = datastate && leb 2 mode && leb mode 4 && lineInRange l && ltb (lastword .0) 32768
+motionInRange (Bytes lastword t) datastate mode = datastate && eqb mode 1 && bytesInRange t && ltb (lastword .0) 32768
 
 -- values outside this are refusal 4
 unfoldable pub inRange : Registers → Bool

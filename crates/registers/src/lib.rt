@@ -24,10 +24,12 @@ pub struct ByteMotion {
     pub right: bool,
 }
 
+// What is under way, with the address of its command's last word, which its points tell. The address stands beside the struct: in a struct of bytes it would
+// make eight bytes, which the compiler moves as one number and takes apart again in each move.
 pub enum Motion {
     Nothing,
-    Line(LineMotion),
-    Bytes(ByteMotion),
+    Line(DisplayAddress, LineMotion),
+    Bytes(DisplayAddress, ByteMotion),
 }
 
 // The word that an external stop holds for the next command beat.
@@ -36,7 +38,7 @@ pub enum Held {
     Holds(u16),
 }
 
-// Every register but the motion. The wide fields first: a struct is laid out in this order.
+// Every register but the motion. The wide fields first: a struct is laid out in this order, which was counted (docs/PERFORMANCE.md).
 pub struct Base {
     pub x: u16,
     pub y: u16,
@@ -55,6 +57,7 @@ pub struct Base {
     // The flags of the two edges: horizontal is x's.
     pub horizontal: bool,
     pub vertical: bool,
+    pub idle: bool,
     pub blink: bool,
     // Pen enable, pen hold, and the light pen sense indicator (LPSI).
     pub pen: bool,
@@ -62,7 +65,6 @@ pub struct Base {
     // A stop request that waits.
     pub request: bool,
     pub sense: bool,
-    pub idle: bool,
     // The hit flags of bank 1, buttons 0 to 5, and bank 2, buttons 6 to 11.
     pub hit1: bool,
     pub hit2: bool,
@@ -156,8 +158,12 @@ fn motion_in_range(m: Motion, datastate: bool, mode: u8) -> bool
 {
     match m {
         Motion::Nothing => true,
-        Motion::Line(l) => datastate & (2 <= mode) & (mode <= 4) & line_in_range(l),
-        Motion::Bytes(t) => datastate & (mode == 1) & bytes_in_range(t),
+        Motion::Line(lastword, l) => {
+            datastate & (2 <= mode) & (mode <= 4) & line_in_range(l) & (lastword.number() < 32768)
+        }
+        Motion::Bytes(lastword, t) => {
+            datastate & (mode == 1) & bytes_in_range(t) & (lastword.number() < 32768)
+        }
     }
 }
 

@@ -45,7 +45,7 @@ fn fitting(r: Reader, row: Row) -> Reader {
 pub(crate) fn read(r: Reader, block: &mut Block) -> Taken {
     let mut row = [0u16; numbers::ROW];
     let q = read_part(r, block, &mut row, 0, numbers::KIND + 1);
-    let end = numbers::used(row[numbers::KIND]);
+    let end = motion_numbers::used(row[numbers::KIND]);
     let p = read_part(q, block, &mut row, numbers::KIND + 1, end);
     Taken {
         reader: fitting(p, row),
@@ -60,6 +60,6 @@ pub(crate) fn left(given: Row, refused: bool, r: Registers) -> Row {
 
 // Writes a row, with a space before each number.
 pub(crate) fn write(row: Row, out: &mut Block, place: usize) -> usize {
-    let end = numbers::used(row[numbers::KIND]);
+    let end = motion_numbers::used(row[numbers::KIND]);
     output::numbers(&row[..end], out, place)
 }

@@ -84,12 +84,12 @@ pub(crate) fn read(
     q
 }
 
-fn write_point(point: u32, out: &mut Block, place: usize) -> usize {
-    output::number(point as u64, out, place)
+fn write_point(point: u64, out: &mut Block, place: usize) -> usize {
+    output::number(point, out, place)
 }
 
 // Writes the first `count` points.
-pub(crate) fn write_points(points: &[u32], count: usize, out: &mut Block, place: usize) -> usize {
+pub(crate) fn write_points(points: &[u64], count: usize, out: &mut Block, place: usize) -> usize {
     let mut at = output::text(b" P", out, place);
     let mut i = 0;
     while i < count && i < points.len() {

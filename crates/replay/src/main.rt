@@ -20,7 +20,7 @@ type Block = [u8; SIZE];
 // most 1,409,024 bytes.
 type Memory = [u16; 32769];
 
-type Points = [u32; 65536];
+type Points = [u64; 65536];
 
 const LONGEST: usize = 1500000;
 
@@ -140,7 +140,7 @@ fn main() {
     let mut out = [0u8; SIZE];
     let mut memory = [0u16; 32769];
     let mut before = [0u16; 32769];
-    let mut points = [0u32; 65536];
+    let mut points = [0u64; 65536];
     let mut text = [0u8; LONGEST];
     let place = lines(
         &mut block,

@@ -63,7 +63,7 @@ fn play(
     case: Case,
     memory: &mut [u16],
     before: &[u16],
-    points: &mut [u32],
+    points: &mut [u64],
     out: &mut Block,
     place: usize,
 ) -> usize {
@@ -87,7 +87,7 @@ fn lend(
     size: u64,
     memory: &mut [u16],
     before: &[u16],
-    points: &mut [u32],
+    points: &mut [u64],
     out: &mut Block,
     place: usize,
 ) -> usize

@@ -158,7 +158,7 @@ module _ {l : Loan} {m₀ ps₀ : List ℕ} {k : ℕ} {r₀ : Registers} {m ps :
           room = fit;
           drawn = rw (w .far .drawn) (drawn-more (w .far .lit) ps₀ (points (c .lit)) n (w .far .count) fit);
           size = length-store (c .stores) m ∙ w .far .size;
-          good = fine q .good;
+          good = fine q .good .registers;
           spent = omega (arith, w .some);
           whole = w .far .whole ∙ ap (after (w .far .lit) b) (one ∙ rw q) ∙ after-made (w .far .lit) (points (c .lit)) b _;
         }

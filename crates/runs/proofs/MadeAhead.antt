@@ -236,8 +236,8 @@ module _ (l : Loan) (m₀ ps₀ : List ℕ) (k : ℕ) (r₀ : Registers) where
         drawing = λ e p _ q. either _ _ (reached (k - b) l c m e p) q;
         left = words-left (k - b) l c m;
       }
-  made-by m ps b n c (Line line) h lt = moved m ps b n (record { base = c; motion = Line line }) h (h .good .motion .0) lt
-  made-by m ps b n c (Bytes bytes) h lt = moved m ps b n (record { base = c; motion = Bytes bytes }) h (h .good .motion .0) lt
+  made-by m ps b n c (Line lastword line) h lt = moved m ps b n (record { base = c; motion = Line lastword line }) h (h .good .motion .0) lt
+  made-by m ps b n c (Bytes lastword bytes) h lt = moved m ps b n (record { base = c; motion = Bytes lastword bytes }) h (h .good .motion .0) lt
 
   -- what the code made ahead of a turn
   pub made : {m ps : List ℕ} {b n : ℕ} {r : Registers} → Head m ps r b n → b < k → {a : Ahead} {m′ ps′ : List ℕ} →

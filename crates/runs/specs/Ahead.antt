@@ -32,8 +32,8 @@ afterMoves s m =
 
 abbrev pub aheadBy : ℕ → Loan → Base → List ℕ → List ℕ → ℕ → Motion → AheadLeft
 aheadBy n l b m ps place Nothing = afterWords (obey n l b m) ps place
-aheadBy n l b m ps place (Line line) = afterMoves (sequence (n - 1) (record { base = b; motion = Line line }) ps place) m
-aheadBy n l b m ps place (Bytes bytes) = afterMoves (sequence (n - 1) (record { base = b; motion = Bytes bytes }) ps place) m
+aheadBy n l b m ps place (Line lastword line) = afterMoves (sequence (n - 1) (record { base = b; motion = Line lastword line }) ps place) m
+aheadBy n l b m ps place (Bytes lastword bytes) = afterMoves (sequence (n - 1) (record { base = b; motion = Bytes lastword bytes }) ps place) m
 
 abbrev pub makeAhead : ℕ → Loan → Registers → List ℕ → List ℕ → ℕ → AheadLeft
 makeAhead n l r m ps place = aheadBy n l (r .base) m ps place (r .motion)

@@ -27,7 +27,7 @@ pub struct Ran {
 }
 
 // Puts the point, if there is one, at a place, and answers the next place.
-fn put(lit: Lit, points: &mut [u32], place: usize) -> usize
+fn put(lit: Lit, points: &mut [u64], place: usize) -> usize
     requires { ⌜ place + length (pointsOf lit) ≤ length (now points) ⌝ }
     ensures { λ r. ⌜ (r ≡ place + length (pointsOf lit)) × (now (points .exit) ≡ sets (now (points .entry)) place (pointsOf lit)) ⌝ }
 {
@@ -54,7 +54,7 @@ fn make_ahead(
     r: Registers,
     l: Loan,
     memory: &mut [u16],
-    points: &mut [u32],
+    points: &mut [u64],
     place: usize,
     limit: u32,
 ) -> Ahead
@@ -79,8 +79,8 @@ fn make_ahead(
                 halt,
             }
         }
-        Motion::Line(line) => {
-            let moves = move_sequence::line_moves(b, line, points, place, limit - 1);
+        Motion::Line(lastword, line) => {
+            let moves = move_sequence::line_moves(b, lastword, line, points, place, limit - 1);
             let registers = moves.registers;
             Ahead {
                 registers,
@@ -89,8 +89,8 @@ fn make_ahead(
                 halt: Halt::Goes,
             }
         }
-        Motion::Bytes(bytes) => {
-            let moves = move_sequence::byte_moves(b, bytes, points, place, limit - 1);
+        Motion::Bytes(lastword, bytes) => {
+            let moves = move_sequence::byte_moves(b, lastword, bytes, points, place, limit - 1);
             let registers = moves.registers;
             Ahead {
                 registers,
@@ -103,7 +103,7 @@ fn make_ahead(
 }
 
 // The run of an accepted call on a running display.
-pub fn run(r: Registers, l: Loan, memory: &mut [u16], points: &mut [u32], budget: u32) -> Ran
+pub fn run(r: Registers, l: Loan, memory: &mut [u16], points: &mut [u64], budget: u32) -> Ran
     requires { ⌜ Good r ⌝ }
     ensures { λ t. ⌜ leaves t (now (memory .exit)) (now (points .exit)) ≡ left (run budget l (length (now (points .entry))) r (now (memory .entry))) (now (points .entry)) ⌝ }
 {

@@ -68,9 +68,9 @@ right = laid 0 (0o5050 ∷ []) zeros
 abbrev drawing : ℕ → Base
 drawing mode = at 0o200 (withY (withX (withMode (withDatastate freshBase true) mode) 100) 100)
 
--- a lit point of intensity 0 that does not blink
+-- a lit point of intensity 0 that does not blink, of a command whose second word is at 0201o (02, No. 5)
 abbrev spot : ℕ → ℕ → ℕ
-spot x y = point x y 0 false
+spot x y = point x y 0 false 0o201
 
 unfoldable pub sheet : List Row
 sheet =

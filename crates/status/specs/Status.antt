@@ -43,8 +43,8 @@ statusOne b =
 -- the byte bit is 1 only in a right byte (01, Host operations)
 unfoldable pub byteFlag : Motion → Bool
 byteFlag Nothing = false
-byteFlag (Line l) = false
-byteFlag (Bytes t) = t .right
+byteFlag (Line lastword l) = false
+byteFlag (Bytes lastword t) = t .right
 
 -- status 2 (2.3.1.6): the byte bit, pen enable, the high bits of y and x, then the settings
 unfoldable pub statusTwo : Base → Motion → ℕ

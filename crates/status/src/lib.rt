@@ -58,8 +58,8 @@ fn byte_flag(m: Motion) -> bool
 {
     match m {
         Motion::Nothing => false,
-        Motion::Line(_) => false,
-        Motion::Bytes(t) => t.right,
+        Motion::Line(_, _) => false,
+        Motion::Bytes(_, t) => t.right,
     }
 }
 

@@ -97,7 +97,7 @@ fn counted(answer: Answer, before: u32) -> Answer {
 
 // A part of the run, behind those that made so many beats. Its points are written.
 fn run_part(r: Registers, l: Loan, memory: &mut Memory, before: u32, budget: u32) -> Ran {
-    let mut points = [0u32; 1024];
+    let mut points = [0u64; 1024];
     let ran = calls::call(r, l, memory, &mut points, budget);
     let answer = ran.answer;
     let registers = ran.registers;

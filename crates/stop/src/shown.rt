@@ -12,8 +12,8 @@ fn emit(text: &[u8], length: usize) {
 }
 
 // Writes a line for each of the first `count` points.
-pub(crate) fn write_points(points: &[u32; 1024], count: usize) {
-    let mut text = [0u8; 24576];
+pub(crate) fn write_points(points: &[u64; 1024], count: usize) {
+    let mut text = [0u8; 30720];
     let length = printout::put_points(points, count, &mut text, 0);
     emit(&text, length);
 }

@@ -1,5 +1,5 @@
--- A beat that leaves registers in range for whatever good words it fetches does so wherever its touches are made. Which beats are so is shown where they
--- are defined. Assumes nothing.
+-- A beat that leaves registers in range and lights a good point for whatever good words it fetches does so wherever its touches are made. Which beats are so is
+-- shown where they are defined. Assumes nothing.
 use Prim.Native.Nat.{ℕ, _≤_}
 use mathlib.Core.List.{List}
 use lib.Dec.{leb}
@@ -9,7 +9,8 @@ use Rattle.words.proofs.Laws.{pick-case}
 use Rattle.addresses.specs.declared.DisplayAddress.{DisplayAddress}
 use Rattle.registers.specs.declared.Held.{Held}
 use Rattle.registers.specs.declared.Held.the-variants.{Empty, Holds}
-use Rattle.registers.specs.Good.{GoodHeld, Good}
+use Rattle.registers.specs.Good.{GoodHeld}
+use Rattle.beam.proofs.Kept.{GoodLeft}
 use Rattle.loan.specs.declared.Loan.{Loan}
 use Rattle.loan.specs.Loan.{mayFetch, mayStore}
 use Rattle.touches.specs.declared.Act.{Act}
@@ -26,10 +27,14 @@ abbrev pub GoodRest : Resting → Type 0
 GoodRest (External word) = word ≤ 4095
 GoodRest Unusable = Unit {0}
 
--- a beat is good if it leaves good registers, or holds a good word, for whatever good words it fetches
+-- what a beat does is good if it leaves good registers and lights a good point
+abbrev pub GoodAct : Act → Type 0
+GoodAct c = GoodLeft (c .registers) (c .lit)
+
+-- a beat is good if what it does is, or it holds a good word, for whatever good words it fetches
 abbrev pub GoodBeat : Beat → Type 0
 GoodBeat (fetch a k) = (w : ℕ) → w ≤ 4095 → GoodBeat (k w)
-GoodBeat (act c) = Good (c .registers)
+GoodBeat (act c) = GoodAct c
 GoodBeat (rest resting) = GoodRest resting
 
 -- what is good with every good word is good with the next command's first word
@@ -37,11 +42,11 @@ pub taking-good : (a : DisplayAddress) (k : ℕ → Beat) (h : Held) → GoodHel
 taking-good a k Empty g i = i
 taking-good a k (Holds word) g i = i word g
 
--- a turn is good if the beat that it makes leaves good registers, or the rest is good
+-- a turn is good if what it does is, or the rest is
 abbrev pub GoodTurn : Turn → Type 0
 GoodTurn (Fails why) = Unit {0}
 GoodTurn (Rests resting) = GoodRest resting
-GoodTurn (Does c) = Good (c .registers)
+GoodTurn (Does c) = GoodAct c
 
 -- a word that is got is good
 abbrev GoodGot : Got → Type 0
@@ -53,7 +58,7 @@ unfolding fetched
 fetched-good l m a =
     pick-case GoodGot (mayFetch l a) (λ _. pick-case GoodGot (leb (getD m (a .0) 0) 4095) (λ e. leb-true _ _ e) (λ _. tt)) (λ _. tt)
 
-allowed-good : (l : Loan) (c : Act) → Good (c .registers) → (s : Stores) → GoodTurn (allowed l c s)
+allowed-good : (l : Loan) (c : Act) → GoodAct c → (s : Stores) → GoodTurn (allowed l c s)
 unfolding allowed
 allowed-good l c g Nowhere = g
 allowed-good l c g (Two at word next second) =

@@ -1,4 +1,4 @@
--- A turn keeps registers in range, and lights a point only where there is room. The commands' own laws are in the crates below: here the dispatch is looked
+-- A turn keeps registers in range, and lights a point, of parts in range, only where there is room. The commands' own laws are in the crates below: here the dispatch is looked
 -- at once, and the walk not at all. Assumes nothing.
 use Prim.Native.Nat.{ℕ, _≤_}
 use mathlib.Core.Path.{_≡_, refl}
@@ -12,7 +12,7 @@ use Rattle.words.proofs.Laws.{pick-case}
 use Rattle.registers.specs.declared.Base.{Base}
 use Rattle.registers.specs.declared.Registers.{Registers}
 use Rattle.registers.specs.Good.{GoodBase, Good}
-use Rattle.beam.specs.declared.Outcome.{Outcome}
+use Rattle.beam.proofs.Kept.{GoodOutcome}
 use Rattle.moves.specs.declared.Moving.{Moving}
 use Rattle.moves.specs.declared.Moving.the-variants.{Still, Going}
 use Rattle.moves.specs.DataWords.{nextMove}
@@ -21,7 +21,7 @@ use Rattle.drawing.proofs.Kept.{point-good, increment-good, vector-good, short-
 use Rattle.loan.specs.declared.Loan.{Loan}
 use Rattle.touches.specs.declared.Act.{Act}
 use Rattle.touches.specs.Touches.{Turn, Fails, Rests, Does, walk}
-use Rattle.touches.proofs.Kept.{GoodRest, GoodBeat, GoodTurn, taking-good, walk-good}
+use Rattle.touches.proofs.Kept.{GoodRest, GoodAct, GoodBeat, GoodTurn, taking-good, walk-good}
 use Rattle.control_beats.specs.ControlWords.{ready}
 use Rattle.control_beats.proofs.Kept.{ready-good, control-good}
 use Rattle.beam.specs.DataWords.{points}
@@ -49,7 +49,7 @@ data-good b w g d u h =
     (λ e1. pick-case GoodBeat (eqb (b .mode) 4)
     (λ e. let four = eqb-true (b .mode) 4 e in short-vector-good b w g d (omega arith) (omega arith))
     (λ e4. pick-case GoodBeat (eqb (b .mode) 6) (λ _. graphplot-good b w g)
-    (λ e6 v _. pick-case (λ (q : Outcome). Good (q .registers)) (eqb (b .mode) 0) (λ _. point-good b w v g)
+    (λ e6 v _. pick-case GoodOutcome (eqb (b .mode) 0) (λ _. point-good b w v g)
     (λ e0.
     let t : (2 ≤ b .mode) × (b .mode ≤ 4) = omega (arith, eqb-false (b .mode) 0 e0, eqb-false (b .mode) 1 e1, eqb-false (b .mode) 4 e4, eqb-false (b .mode) 6 e6, eqb-false (b .mode) 5 (n .0), eqb-false (b .mode) 7 (n .1), g .mode) in
     vector-good b w v g d (t .0) (t .1)))))
@@ -73,7 +73,7 @@ beat-good r g = by-good r g _ refl
 -- THE TURN
 
 pub record Fine (room : ℕ) (c : Act) : Type 0 where
-  pub good : Good (c .registers)
+  pub good : GoodAct c
   pub fits : length (points (c .lit)) ≤ room
 
 abbrev pub FineTurn : ℕ → Turn → Type 0

@@ -41,5 +41,5 @@ module _ (l : Loan) (m : List ℕ) (room : ℕ) (b : Base) (k : ℕ → Beat) (e
 pub still : (m : Motion) (mode scale : ℕ) → nextMove m mode scale ≡ Still → m ≡ Nothing
 unfolding nextMove
 still Nothing mode scale e = refl
-still (Line t) mode scale e = cc
-still (Bytes t) mode scale e = cc
+still (Line lastword t) mode scale e = cc
+still (Bytes lastword t) mode scale e = cc

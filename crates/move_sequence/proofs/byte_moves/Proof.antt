@@ -13,11 +13,11 @@ use Rattle.move_sequence.proofs.byte_moves.Statement.{statement}
 use Rattle.move_sequence.proofs.byte_moves.Tie as tie
 
 abbrev Inv-loop : tie.InvT-loop
-Inv-loop b points₀ from limit placesx placesy distance lowx₀ lowy₀ upperx uppery bytes₀ place₀ left₀ points lowx lowy bytes place left =
-    Along limit (record { base = b; motion = Bytes bytes₀ }) points₀ from b placesx placesy distance upperx uppery left lowx lowy bytes points place
+Inv-loop b lastword points₀ from limit placesx placesy distance lowx₀ lowy₀ upperx uppery bytes₀ place₀ left₀ points lowx lowy bytes place left =
+    Along limit (record { base = b; motion = Bytes lastword bytes₀ }) points₀ from b placesx placesy distance upperx uppery lastword left lowx lowy bytes points place
 
 abbrev μ-loop : tie.MeasureT-loop
-μ-loop b points₀ from limit placesx placesy distance lowx₀ lowy₀ upperx uppery bytes₀ place₀ left₀ points lowx lowy bytes place left = left
+μ-loop b lastword points₀ from limit placesx placesy distance lowx₀ lowy₀ upperx uppery bytes₀ place₀ left₀ points lowx lowy bytes place left = left
 
 -- THE PLACES THAT THE ANSWERS LOOK BACK TO, each from the one before it here: where both axes were tried, from where the point was lit; the loop's head; what was
 -- set up for it; the entry
@@ -176,7 +176,7 @@ same-length-3 c = c .before .before .before .before .loop .inv .far .size
 
 returns-3 : tie.Need-returns-3 Inv-loop μ-loop
 returns-3 c = ends (c .before .before .before .before .loop .inv) (c .before .before .before .loop-test .taken) (c .before .before .byte-move .ensures)
-    (λ n e. ⊎-elim (λ z. let w = rw e at z in omega arith) (λ z. let w = rw e at z in omega arith) (c .before .match .keys2)) _ (c .stays3 .ensures)
+    (λ _ _ e. ⊎-elim (λ z. let w = rw e at z in omega arith) (λ z. let w = rw e at z in omega arith) (c .before .match .keys2)) _ (c .stays3 .ensures)
 
 add-stays-7 : tie.Need-add-stays-7 Inv-loop μ-loop
 add-stays-7 c = record { fits = omega (arith, c .before .loop .inv .far .good .base .x) }

@@ -14,11 +14,11 @@ use Rattle.move_sequence.proofs.line_moves.Statement.{statement}
 use Rattle.move_sequence.proofs.line_moves.Tie as tie
 
 abbrev Inv-loop : tie.InvT-loop
-Inv-loop b l points₀ from limit placesx placesy distance last lowx₀ lowy₀ upperx uppery owedx₀ owedy₀ twice done₀ place₀ points lowx lowy owedx owedy done place =
-    Along b l points₀ from limit placesx placesy distance last upperx uppery twice points lowx lowy owedx owedy done place
+Inv-loop b lastword l points₀ from limit placesx placesy distance last lowx₀ lowy₀ upperx uppery owedx₀ owedy₀ twice done₀ place₀ points lowx lowy owedx owedy done place =
+    Along b lastword l points₀ from limit placesx placesy distance last upperx uppery twice points lowx lowy owedx owedy done place
 
 abbrev μ-loop : tie.MeasureT-loop
-μ-loop b l points₀ from limit placesx placesy distance last lowx₀ lowy₀ upperx uppery owedx₀ owedy₀ twice done₀ place₀ points lowx lowy owedx owedy done place = last - done
+μ-loop b lastword l points₀ from limit placesx placesy distance last lowx₀ lowy₀ upperx uppery owedx₀ owedy₀ twice done₀ place₀ points lowx lowy owedx owedy done place = last - done
 
 -- THE PLACES THAT THE ANSWERS LOOK BACK TO, each from the one before it here: where both axes were tried, from where the point was lit; the loop's head; what was
 -- set up for it; the entry
@@ -161,7 +161,7 @@ mul-points c = record {
   fits = omega (
     arith,
     c .if2 .taken,
-    entry (set-up (head (tried (c .before .before .before .before)))) .good .1 .1 .0 .1,
+    entry (set-up (head (tried (c .before .before .before .before)))) .good .1 .1 .1 .0 .1,
     head (tried (c .before .before .before .before)) .loop .inv .far .size,
   );
 }
@@ -174,7 +174,7 @@ add-place c = record {
   fits = omega (
     arith,
     c .if2 .taken,
-    entry (set-up (head (tried (c .before .before .before .before)))) .good .1 .1 .0 .0,
+    entry (set-up (head (tried (c .before .before .before .before)))) .good .1 .1 .1 .0 .0,
     head (tried (c .before .before .before .before)) .loop .inv .far .size,
   );
 }

@@ -45,8 +45,8 @@ line-moves-requires : tie.Need-line-moves-requires
 line-moves-requires c κs =
     let s = called (c .before .before .before .before) in (told (s .args .r) (c .before .before .motion .given .1) (s .pre .0), s .pre .1)
 
-add-t25 : tie.Need-add-t25
-add-t25 c =
+add-t27 : tie.Need-add-t27
+add-t27 c =
     let moves = c .before .before .before .before in
     let s = line-call moves in
     omega (arith, left _ _ _ _ (moves .line-moves .ensures), s .pre .2, s .fits .limit .fits)
@@ -66,8 +66,8 @@ byte-moves-requires : tie.Need-byte-moves-requires
 byte-moves-requires c κs =
     let s = called (c .before .before .before .before) in (told (s .args .r) (c .before .before .motion2 .given .1) (s .pre .0), s .pre .1)
 
-add-t29 : tie.Need-add-t29
-add-t29 c =
+add-t31 : tie.Need-add-t31
+add-t31 c =
     let moves = c .before .before .before .before in
     let s = byte-call moves in
     omega (arith, left _ _ _ _ (moves .byte-moves .ensures), s .pre .2, s .fits .limit .fits)
@@ -87,11 +87,11 @@ make-ahead-spec =
     (λ c. search needs)
     (λ c. search needs)
     line-moves-requires
-    add-t25
+    add-t27
     (λ c. search needs)
     (λ c. search needs)
     byte-moves-requires
-    add-t29
+    add-t31
     (λ c. search needs)
     returns
     (λ c. search needs)

@@ -3,8 +3,8 @@ use Prim.Native.Nat.{_≤_}
 use borrow.Author.Needs.{needs}
 use mathlib.Core.Path.{sym}
 use lib.Seq.{length-take-le}
-use Rattle.numbers.specs.Places.{ROW}
-use Rattle.numbers.proofs.Again.{used-few}
+use Rattle.motion_numbers.specs.MotionNumbers.{ROW}
+use Rattle.motion_numbers.proofs.Motions.{used-few}
 use Rattle.replay.proofs.fields.write.Statement.{statement}
 use Rattle.replay.proofs.fields.write.Tie as tie
 

@@ -1,10 +1,10 @@
--- `numbers::used` meets its promise: each arm is a case of the definition. Assumes nothing.
+-- `motion_numbers::used` meets its promise: each arm is a case of the definition. Assumes nothing.
 use borrow.Author.Needs.{needs}
 use borrow.Author.Tests.{ne-eqb}
 use Rattle.words.specs.Words.{pick}
-use Rattle.numbers.specs.Numbers.{used}
-use Rattle.numbers.proofs.used.Statement.{statement}
-use Rattle.numbers.proofs.used.Tie as tie
+use Rattle.motion_numbers.specs.MotionNumbers.{used}
+use Rattle.motion_numbers.proofs.used.Statement.{statement}
+use Rattle.motion_numbers.proofs.used.Tie as tie
 
 pub used-spec : {M : Type 1} → statement M
 unfolding used pick

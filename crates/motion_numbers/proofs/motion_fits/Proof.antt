@@ -1,10 +1,10 @@
--- `numbers::motion_fits` meets its promise: each arm is a case of the definition. Assumes nothing.
+-- `motion_numbers::motion_fits` meets its promise: each arm is a case of the definition. Assumes nothing.
 use borrow.Author.Needs.{needs}
 use borrow.Author.Tests.{ne-eqb}
 use Rattle.words.specs.Words.{pick}
-use Rattle.numbers.specs.Numbers.{motionFits}
-use Rattle.numbers.proofs.motion_fits.Statement.{statement}
-use Rattle.numbers.proofs.motion_fits.Tie as tie
+use Rattle.motion_numbers.specs.MotionNumbers.{motionFits}
+use Rattle.motion_numbers.proofs.motion_fits.Statement.{statement}
+use Rattle.motion_numbers.proofs.motion_fits.Tie as tie
 
 pub motion-fits-spec : {M : Type 1} → statement M
 unfolding motionFits pick

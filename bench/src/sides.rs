@@ -62,7 +62,7 @@ pub struct Desk {
     #[cfg(feature = "proved")]
     row: eveglome::Row,
     memory: Vec<u16>,
-    points: Vec<u32>,
+    points: Vec<u64>,
     /// Ending, beats, points and the address that the ending tells.
     pub answer: [u32; 4],
 }

@@ -1,5 +1,6 @@
 //! How often a stream of cases reaches each rule, seen from outside by runs of one beat each.
 
+mod points;
 mod stops;
 
 use std::collections::HashMap;
@@ -87,10 +88,12 @@ const TOLD_DIFFERS: &str = "fence tells another touch than the first barred one 
 const NOT_READ_BACK: &str = "listing not read back to its words (should be 0)";
 const NOT_LISTED_SO: &str = "reading accepted of a text that its words do not list (should be 0)";
 const REFUSAL_WROTE: &str = "refused reading that changed a word (should be 0)";
-const SHOULD_BE_0: [&str; 6] = [
+const SHOULD_BE_0: [&str; 8] = [
     STEPWISE_DIFFERS,
     TOLD_DIFFERS,
     stops::STOP_DIFFERS,
+    points::ENTRY_DIFFERS,
+    points::MOTION_DIFFERS,
     NOT_READ_BACK,
     NOT_LISTED_SO,
     REFUSAL_WROTE,
@@ -233,6 +236,7 @@ fn row_names() -> Vec<String> {
         names.push(what.into());
     }
     names.extend(stops::row_names());
+    names.extend(points::row_names());
     names.extend(listing_row_names());
     names.extend(reading_row_names());
     names.extend(SHOULD_BE_0.map(String::from));
@@ -360,11 +364,14 @@ fn operation_reached(coverage: &mut Coverage, before: Registers, operation: u32,
     if ending != Ending::Done {
         coverage.count(&format!("operation refused {}", ending.number()));
         stops::refusal_reached(coverage, "operation", &before, ending);
+        points::refusal_reached(coverage, "operation", &before, ending);
         return;
     }
     coverage.count(&format!("operation {operation} accepted"));
     stops::registers_reached(coverage, "operation", &before);
     stops::operation_reached(coverage, &before, &after, operation);
+    points::registers_reached(coverage, "operation", &before);
+    points::operation_reached(coverage, &before, &after, operation);
     match operation {
         4 if !before.running => {
             coverage.count("resume of a stopped display");
@@ -397,11 +404,13 @@ fn run_reached(coverage: &mut Coverage, case: &RunCase) {
     if answer.ending.number() < 10 {
         coverage.count(&format!("run refused {}", answer.ending.number()));
         stops::refusal_reached(coverage, "run", &case.registers, answer.ending);
+        points::refusal_reached(coverage, "run", &case.registers, answer.ending);
         return;
     }
     coverage.count(&format!("ending {}", answer.ending.number()));
     stops::registers_reached(coverage, "run", &case.registers);
     stops::run_reached(coverage, case, &whole);
+    points::registers_reached(coverage, "run", &case.registers);
     loan_reached(coverage, case.loan);
     coverage.count_if(case.room == 0, "room 0");
     coverage.count_if(case.room == 1, "room 1");
@@ -430,19 +439,51 @@ fn loan_reached(coverage: &mut Coverage, loan: Loan) {
     coverage.count_if(overlapping, "loan overlapping");
 }
 
+/// One turn of a run, seen from outside.
+struct Turn<'a> {
+    loan: Loan,
+    before: &'a Registers,
+    after: &'a Registers,
+    /// The word of memory at the display address before the turn.
+    own: u16,
+    /// The first word of the next command, held or else in memory.
+    first: u16,
+    /// Whether the turn before it moved.
+    behind_a_move: bool,
+    /// The command that it is a part of. There is none as long as a motion goes on that the run was
+    /// given.
+    command: Option<Command>,
+    /// The entry of the point that it lit.
+    point: Option<u64>,
+}
+
+/// A command that a run makes itself.
+#[derive(Clone, Copy)]
+struct Command {
+    address: u16,
+    is_held: bool,
+}
+
 /// The same run again, each beat with a budget of its own, so that each can be looked at.
 fn beat_by_beat(
     coverage: &mut Coverage,
     case: &RunCase,
     registers: &mut Registers,
     memory: &mut [u16],
-    points: &mut [u32],
+    points: &mut [u64],
 ) -> Answer {
     let mut beats = 0;
     let mut lit = 0;
     let mut behind_a_move = false;
+    let mut command = None;
     while beats < case.budget {
         let before = *registers;
+        if before.motion == Motion::Nothing {
+            command = Some(Command {
+                address: before.display_address,
+                is_held: before.word_is_held,
+            });
+        }
         // The word of memory at the display address, and the words of the command.
         let own = peek(memory, before.display_address);
         let words = [
@@ -453,18 +494,24 @@ fn beat_by_beat(
         let answer = run(registers, memory, case.loan, 1, rest);
         beats += answer.beats;
         lit += answer.points;
-        let turn = stops::Turn {
+        let turn = Turn {
             loan: case.loan,
             before: &before,
             after: registers,
             own,
             first: words[0],
             behind_a_move,
+            command,
+            point: rest.first().copied().filter(|_| answer.points == 1),
         };
         if answer.beats == 1 {
             beat_reached(coverage, &before, registers, words, answer);
             stops::beat_reached(coverage, &turn);
+            points::beat_reached(coverage, &turn, memory);
             behind_a_move = before.motion != Motion::Nothing;
+        }
+        if answer.ending != Ending::BudgetSpent || beats == case.budget {
+            points::ending_reached(coverage, &turn, answer.ending);
         }
         if answer.ending != Ending::BudgetSpent {
             if answer.beats == 0 {

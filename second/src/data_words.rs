@@ -31,9 +31,12 @@ fn second_word(registers: &Registers, memory: &LentMemory) -> Result<u16, Ending
     memory.fetch(address_after(registers.display_address, 1))
 }
 
-/// The display goes on behind the command's words.
-fn go_on(registers: &mut Registers, words: u16) {
-    registers.display_address = address_after(registers.display_address, words);
+/// The display goes on behind the command's one or two words. The address of the last of them is
+/// answered, for 02, No. 5; it counts as the display address does, from 77777o to 0.
+fn go_on(registers: &mut Registers, words: u16) -> u16 {
+    let last_word = address_after(registers.display_address, words - 1);
+    registers.display_address = address_after(last_word, 1);
+    last_word
 }
 
 /// 01, data words: "Distance s is 1, 2, 4, 8 by scale".
@@ -151,14 +154,16 @@ fn edge_stop(registers: &mut Registers, moved: &Moved) -> Option<Ending> {
 
 /// 01, data words: "A point lights ... if the word or byte asks it or condition bit 8 is set, the
 /// beam after the beat is in sector 0, and the beat violated nothing". Its value is in 01, what
-/// the simulator covers.
-fn lit_point(registers: &Registers, asked: bool, violated: bool) -> Option<u32> {
+/// the simulator covers; 02, No. 5: "plus 2^24 times the 15-bit address of the last word of the
+/// command that lit it".
+fn lit_point(registers: &Registers, asked: bool, violated: bool, last_word: u16) -> Option<u64> {
     if (asked || registers.condition(8)) && registers.in_sector_0() && !violated {
         Some(
-            u32::from(registers.x)
-                + 1_024 * u32::from(registers.y)
-                + (1 << 20) * u32::from(registers.intensity)
-                + (1 << 23) * u32::from(registers.blink),
+            u64::from(registers.x)
+                + 1_024 * u64::from(registers.y)
+                + (1 << 20) * u64::from(registers.intensity)
+                + (1 << 23) * u64::from(registers.blink)
+                + (1 << 24) * u64::from(last_word),
         )
     } else {
         None
@@ -188,27 +193,28 @@ fn point(registers: &mut Registers, first: u16, second: u16) -> Beat {
     if !bit(second, 1) {
         registers.x = with_low_ten(registers.x, second);
     }
-    go_on(registers, 2);
+    let last_word = go_on(registers, 2);
     end_command(registers, bit(second, 0));
     Beat {
-        point: lit_point(registers, bit(first, 0), false),
+        point: lit_point(registers, bit(first, 0), false, last_word),
         stop: None,
     }
 }
 
 /// 01, increment: the command beat only fetches; each move is a beat of its own.
 fn increment(registers: &mut Registers, word: u16) -> Beat {
-    registers.motion = Motion::Bytes(start_of_byte(word, Side::Left));
-    go_on(registers, 1);
+    let last_word = go_on(registers, 1);
+    registers.motion = Motion::Bytes(start_of_byte(word, Side::Left, last_word));
     Beat::quiet()
 }
 
 /// A byte with all its moves before it.
-fn start_of_byte(word: u16, side: Side) -> Bytes {
+fn start_of_byte(word: u16, side: Side, last_word: u16) -> Bytes {
     Bytes {
         word,
         side,
         moves_left: byte_moves(byte_of(word, side)),
+        last_word,
     }
 }
 
@@ -239,7 +245,7 @@ pub fn byte_move_beat(registers: &mut Registers, bytes: Bytes) -> Beat {
     after_byte_move(registers, bytes);
     let stop = edge_stop(registers, &moved);
     Beat {
-        point: lit_point(registers, byte_lit(byte), moved.violates()),
+        point: lit_point(registers, byte_lit(byte), moved.violates(), bytes.last_word),
         stop,
     }
 }
@@ -255,7 +261,8 @@ fn after_byte_move(registers: &mut Registers, bytes: Bytes) {
     } else if byte_escapes(bytes.byte()) {
         end_command(registers, true);
     } else if bytes.side == Side::Left {
-        registers.motion = Motion::Bytes(start_of_byte(bytes.word, Side::Right));
+        let right = start_of_byte(bytes.word, Side::Right, bytes.last_word);
+        registers.motion = Motion::Bytes(right);
     } else {
         end_command(registers, false);
     }
@@ -264,7 +271,7 @@ fn after_byte_move(registers: &mut Registers, bytes: Bytes) {
 /// 01, vector and vector continue: "signs and magnitudes". Manual 2.2.3: bit 0 of the first word
 /// asks for the points, of the second escapes; bit 1 is the sign, bits 2 to 11 the magnitude.
 fn vector(registers: &mut Registers, first: u16, second: u16) -> Beat {
-    go_on(registers, 2);
+    let last_word = go_on(registers, 2);
     start_line(
         registers,
         Line {
@@ -276,13 +283,14 @@ fn vector(registers: &mut Registers, first: u16, second: u16) -> Beat {
             done: 0,
             lit: bit(first, 0),
             escape: bit(second, 0),
+            last_word,
         },
     )
 }
 
 /// 01, short vector. Manual 2.2.5: the same as a vector in one word, four bits a magnitude.
 fn short_vector(registers: &mut Registers, word: u16) -> Beat {
-    go_on(registers, 1);
+    let last_word = go_on(registers, 1);
     start_line(
         registers,
         Line {
@@ -294,6 +302,7 @@ fn short_vector(registers: &mut Registers, word: u16) -> Beat {
             done: 0,
             lit: bit(word, 0),
             escape: bit(word, 6),
+            last_word,
         },
     )
 }
@@ -344,7 +353,7 @@ pub fn line_move_beat(registers: &mut Registers, line: Line) -> Beat {
     after_line_move(registers, line);
     let stop = edge_stop(registers, &moved);
     Beat {
-        point: lit_point(registers, line.lit, moved.violates()),
+        point: lit_point(registers, line.lit, moved.violates(), line.last_word),
         stop,
     }
 }
@@ -385,11 +394,11 @@ fn graphplot(registers: &mut Registers, word: u16) -> Beat {
     } else {
         registers.y = with_low_ten(registers.y, word);
     }
-    go_on(registers, 1);
+    let last_word = go_on(registers, 1);
     end_command(registers, bit(word, 0));
     let stop = edge_stop(registers, &moved);
     Beat {
-        point: lit_point(registers, true, moved.violates()),
+        point: lit_point(registers, true, moved.violates(), last_word),
         stop,
     }
 }
@@ -398,13 +407,13 @@ fn graphplot(registers: &mut Registers, word: u16) -> Beat {
 mod tests {
     use super::*;
     use crate::host_operations::operate;
-    use crate::turn::tests::{ended, Bench};
+    use crate::turn::tests::{ended, range, Bench};
 
     fn place(bench: &Bench) -> (u16, u16) {
         (bench.registers.x, bench.registers.y)
     }
 
-    fn lit_places(bench: &Bench, count: u32) -> Vec<(u32, u32)> {
+    fn lit_places(bench: &Bench, count: u32) -> Vec<(u64, u64)> {
         bench.points[..count as usize]
             .iter()
             .map(|point| (point % 1_024, point / 1_024 % 1_024))
@@ -509,7 +518,7 @@ mod tests {
         // 33 beats with its mode and pop words, and one for the stop word.
         assert_eq!(answer, ended(Ending::InternalStop, 34, 18));
         assert_eq!(place(&bench), (107, 100));
-        let legs: Vec<(u32, u32)> = lit_places(&bench, 18);
+        let legs: Vec<(u64, u64)> = lit_places(&bench, 18);
         assert_eq!(legs[0], (100, 100));
         assert_eq!(legs[6], (101, 106));
         assert_eq!(legs[17], (104, 101));
@@ -532,7 +541,9 @@ mod tests {
         assert_eq!(bench.run(227), ended(Ending::BudgetSpent, 227, 220));
         assert_eq!(place(&bench), (100, 100));
         assert_eq!(bench.registers.pushdown_pointer, 0o7776);
-        assert!(bench.points[..220].iter().all(|point| point >> 20 == 5));
+        assert!(bench.points[..220]
+            .iter()
+            .all(|point| point / (1 << 20) % 16 == 5));
         let places = lit_places(&bench, 220);
         assert_eq!(places[54], (100, 210));
         assert_eq!(places[109], (210, 210));
@@ -571,7 +582,7 @@ mod tests {
         let mut bench = Bench::data(0, &[0o4000, 0]);
         bench.points = vec![7; 2];
         assert_eq!(bench.run(1), ended(Ending::BudgetSpent, 1, 1));
-        assert_eq!(bench.points, [0, 7]);
+        assert_eq!(bench.points, [16_777_216 * 0o201, 7]);
     }
 
     #[test]
@@ -623,6 +634,7 @@ mod tests {
             word: 0o1432,
             side: Side::Right,
             moves_left: 3,
+            last_word: 0o200,
         };
         assert_eq!(bench.registers.motion, Motion::Bytes(right));
         let (resumed, _, status_2) = operate(bench.registers, 25, 0);
@@ -790,6 +802,176 @@ mod tests {
         assert_eq!(bench.run(2), ended(Ending::Edge, 1, 0));
         assert_eq!(place(&bench), (0o2777, 0));
         assert!(bench.registers.vertical_edge_flag && !bench.registers.horizontal_edge_flag);
+    }
+
+    /// The last words that the lit points tell.
+    fn told(bench: &Bench, count: u32) -> Vec<u64> {
+        let lit = bench.points[..count as usize].iter();
+        lit.map(|point| point / (1 << 24)).collect()
+    }
+
+    /// The last word that the motion remembers.
+    fn remembered(bench: &Bench) -> Option<u16> {
+        match bench.registers.motion {
+            Motion::Nothing => None,
+            Motion::Line(line) => Some(line.last_word),
+            Motion::Bytes(bytes) => Some(bytes.last_word),
+        }
+    }
+
+    /// A drawing command of each mode: its words, the beats to its first point, and the points that
+    /// it lights until it ends or the budget of 6 does.
+    const DRAWING: [(u8, &[u16], u32, u32); 6] = [
+        (0, &[0o4005, 0o0006], 1, 1),
+        (1, &[0o6252], 2, 3),
+        (2, &[0o4002, 0o0003], 2, 3),
+        (3, &[0o4001, 0o0001], 2, 5),
+        (4, &[0o4302], 2, 3),
+        (6, &[0o0123], 1, 1),
+    ];
+
+    /// A command at this address, the beam in the middle.
+    fn drawing_at(address: u16, mode: u8, words: &[u16]) -> Bench {
+        let mut bench = Bench::at(address, words);
+        bench.registers.state = State::Data;
+        bench.registers.mode = mode;
+        bench.registers.x = 500;
+        bench.registers.y = 500;
+        bench
+    }
+
+    #[test]
+    fn a_point_tells_the_last_word_of_its_command() {
+        for (mode, words, beats, lit) in DRAWING {
+            for address in [0, 1, 0o200, 0o37777, 0o77775, 0o77776, 0o77777] {
+                let last_word = (address + words.len() as u16 - 1) % 0o100000;
+                let mut bench = drawing_at(address, mode, words);
+                // Only the command's words are lent, so that the run ends behind it.
+                bench.loan.file = range(address, address + 1);
+                bench.loan.list = range(last_word, last_word + 1);
+                let answer = bench.run(6);
+                assert_eq!(answer.points, lit, "mode {mode} at {address:o}");
+                let expected = vec![u64::from(last_word); lit as usize];
+                assert_eq!(told(&bench, lit), expected, "mode {mode} at {address:o}");
+                // A budget that ends behind the first point shows the address in the motion.
+                let mut bench = drawing_at(address, mode, words);
+                assert_eq!(bench.run(beats), ended(Ending::BudgetSpent, beats, 1));
+                let moves_on = !matches!(mode, 0 | 6);
+                assert_eq!(remembered(&bench), moves_on.then_some(last_word));
+            }
+        }
+    }
+
+    #[test]
+    fn a_held_command_tells_the_address_that_its_word_has() {
+        for (mode, words, beats, _) in DRAWING {
+            for address in [0, 0o200, 0o77776, 0o77777] {
+                let last_word = u64::from(address) + words.len() as u64 - 1;
+                let mut bench = drawing_at(address, mode, words);
+                bench.put(address, &[0o10000]);
+                bench.registers.hold(words[0]);
+                assert_eq!(bench.run(beats), ended(Ending::BudgetSpent, beats, 1));
+                assert_eq!(told(&bench, 1), [last_word % 0o100000], "{mode}");
+            }
+        }
+    }
+
+    #[test]
+    fn each_command_tells_its_own_last_word() {
+        // Two vectors, the first one move right, the second one move up.
+        let mut bench = Bench::data(2, &[0o4000, 0o0001, 0o4001, 0o0000]);
+        assert_eq!(bench.run(4), ended(Ending::BudgetSpent, 4, 2));
+        assert_eq!(lit_places(&bench, 2), [(1, 0), (1, 1)]);
+        assert_eq!(told(&bench, 2), [0o201, 0o203]);
+        // Two graphplots.
+        let mut bench = Bench::data(6, &[0o0005, 0o0006]);
+        assert_eq!(bench.run(2), ended(Ending::BudgetSpent, 2, 2));
+        assert_eq!(told(&bench, 2), [0o200, 0o201]);
+    }
+
+    #[test]
+    fn both_bytes_tell_their_word() {
+        // One move right, then three up, all lit.
+        let mut bench = Bench::data(1, &[0o5072]);
+        assert_eq!(bench.run(2), ended(Ending::BudgetSpent, 2, 1));
+        let right = Bytes {
+            word: 0o5072,
+            side: Side::Right,
+            moves_left: 3,
+            last_word: 0o200,
+        };
+        assert_eq!(bench.registers.motion, Motion::Bytes(right));
+        assert_eq!(bench.run(3), ended(Ending::BudgetSpent, 3, 3));
+        assert_eq!(told(&bench, 3), [0o200; 3]);
+    }
+
+    #[test]
+    fn a_point_that_bit_8_lights_tells_its_word_too() {
+        // An unlit vector of one move.
+        let mut bench = Bench::data(2, &[0o0000, 0o0001]);
+        bench.registers.conditions = 0o0010;
+        assert_eq!(bench.run(2), ended(Ending::BudgetSpent, 2, 1));
+        assert_eq!(told(&bench, 1), [0o201]);
+    }
+
+    #[test]
+    fn the_last_word_stays_over_an_edge_stop() {
+        // Three moves left from x = 1: the second passes the edge, the third comes after a resume.
+        let mut bench = Bench::data(2, &[0o4000, 0o2003]);
+        bench.registers.x = 1;
+        assert_eq!(bench.run(9), ended(Ending::Edge, 3, 1));
+        assert_eq!(remembered(&bench), Some(0o201));
+        bench.registers = operate(bench.registers, 4, 0).0;
+        assert_eq!(bench.run(1), ended(Ending::BudgetSpent, 1, 1));
+        assert_eq!(lit_places(&bench, 1), [(1_022, 0)]);
+        assert_eq!(told(&bench, 1), [0o201]);
+    }
+
+    #[test]
+    fn the_last_word_stays_over_a_pen_stop() {
+        let mut bench = Bench::data(1, &[0o6020]);
+        bench.registers.pen_enable = true;
+        assert_eq!(bench.run(2), ended(Ending::BudgetSpent, 2, 1));
+        bench.registers = operate(bench.registers, 7, 0).0;
+        assert_eq!(bench.run(9), ended(Ending::NotRunning, 0, 0));
+        assert_eq!(remembered(&bench), Some(0o200));
+        bench.registers = operate(bench.registers, 4, 0).0;
+        assert_eq!(bench.run(1), ended(Ending::BudgetSpent, 1, 1));
+        assert_eq!(told(&bench, 1), [0o200]);
+    }
+
+    #[test]
+    fn a_motion_handed_in_tells_the_address_that_it_came_with() {
+        let line = Motion::Line(Line {
+            y_minus: false,
+            x_minus: false,
+            y_magnitude: 1,
+            x_magnitude: 2,
+            moves: 2,
+            done: 0,
+            lit: true,
+            escape: false,
+            last_word: 0o54321,
+        });
+        let bytes = Motion::Bytes(Bytes {
+            word: 0o5050,
+            side: Side::Left,
+            moves_left: 1,
+            last_word: 0o54321,
+        });
+        for (mode, motion) in [(1, bytes), (2, line), (3, line), (4, line)] {
+            let mut bench = Bench::data(mode, &[]);
+            bench.registers.motion = motion;
+            // The word there is neither good nor lent.
+            bench.put(0o54321, &[0o10000]);
+            bench.loan.file = range(0, 0);
+            bench.loan.list = range(0, 0);
+            assert_eq!(bench.run(1), ended(Ending::BudgetSpent, 1, 1));
+            assert_eq!(remembered(&bench), Some(0o54321));
+            assert_eq!(told(&bench, 1), [0o54321]);
+            assert_eq!(bench.run(1), ended(Ending::BudgetSpent, 1, 1));
+            assert_eq!(told(&bench, 1), [0o54321]);
+        }
     }
 
     #[test]

@@ -1,7 +1,9 @@
 //! A seeded generator of cases: plausible display files, wild ones and ones at the fence, external
-//! stops and held words, words to list and listings to read, biased to the corners.
+//! stops and held words, points and their words, words to list and listings to read, biased to the
+//! corners.
 
 mod listings;
+mod points;
 mod stops;
 
 pub use listings::{
@@ -12,7 +14,7 @@ use crate::data_words::{x_dimension, y_dimension};
 use crate::refusals_and_endings::{Loan, LoanRange, MEMORY_LENGTH};
 use crate::registers::{
     address_after, byte_moves, byte_of, pointer_after, pointer_before, Bytes, Line, Motion,
-    Registers, Side, State,
+    Registers, Side, State, ADDRESSES,
 };
 use crate::replay::{Case, GivenMemory, RunCase};
 
@@ -79,10 +81,11 @@ pub fn next_case(chance: &mut Chance) -> Case {
 pub fn next_case_and_change(chance: &mut Chance) -> (Case, Option<&'static str>) {
     let case = match chance.between(0, 99) {
         0..=19 => operation_case(chance),
-        20..=45 => Case::Run(structured_run(chance)),
-        46..=69 => Case::Run(wild_run(chance)),
-        70..=77 => Case::Run(fenced_run(chance)),
-        78..=89 => Case::Run(stops::stop_run(chance)),
+        20..=42 => Case::Run(structured_run(chance)),
+        43..=61 => Case::Run(wild_run(chance)),
+        62..=69 => Case::Run(fenced_run(chance)),
+        70..=81 => Case::Run(stops::stop_run(chance)),
+        82..=89 => Case::Run(points::point_run(chance)),
         90..=93 => Case::List(listings::listing_case(chance)),
         _ => {
             let (case, change) = listings::reading_case(chance);
@@ -158,7 +161,7 @@ fn magnitude(chance: &mut Chance) -> u16 {
 }
 
 /// An unfinished line that 01's rules of motion allow.
-fn line(chance: &mut Chance) -> Line {
+fn line(chance: &mut Chance, display_address: u16) -> Line {
     let y_magnitude = magnitude(chance);
     let mut x_magnitude = magnitude(chance);
     if y_magnitude == 0 && x_magnitude == 0 {
@@ -179,11 +182,12 @@ fn line(chance: &mut Chance) -> Line {
         done,
         lit: chance.coin(),
         escape: chance.coin(),
+        last_word: points::last_word(chance, display_address),
     }
 }
 
 /// Unfinished bytes that 01's rules of motion allow.
-fn bytes(chance: &mut Chance) -> Bytes {
+fn bytes(chance: &mut Chance, display_address: u16) -> Bytes {
     let mut word = chance.good_word();
     let side = if chance.coin() {
         Side::Left
@@ -198,6 +202,7 @@ fn bytes(chance: &mut Chance) -> Bytes {
         word,
         side,
         moves_left: chance.between(1, moves),
+        last_word: points::last_word(chance, display_address),
     }
 }
 
@@ -286,13 +291,13 @@ fn leave_one_flag(chance: &mut Chance, registers: &mut Registers) {
 fn put_in_line(chance: &mut Chance, registers: &mut Registers) {
     registers.state = State::Data;
     registers.mode = chance.between(2, 4) as u8;
-    registers.motion = Motion::Line(line(chance));
+    registers.motion = Motion::Line(line(chance, registers.display_address));
 }
 
 fn put_in_bytes(chance: &mut Chance, registers: &mut Registers) {
     registers.state = State::Data;
     registers.mode = 1;
-    registers.motion = Motion::Bytes(bytes(chance));
+    registers.motion = Motion::Bytes(bytes(chance, registers.display_address));
 }
 
 /// One field put out of range, each in its turn, the rules of motion too.
@@ -340,8 +345,8 @@ fn beyond_eight_bits(chance: &mut Chance, first: u16) -> u8 {
 
 fn spoil_line(chance: &mut Chance, registers: &mut Registers) {
     put_in_line(chance, registers);
-    let mut line = line(chance);
-    match chance.between(0, 7) {
+    let mut line = line(chance, registers.display_address);
+    match chance.between(0, 8) {
         0 => registers.state = State::Control,
         1 => registers.mode = chance.pick(&[0, 1, 5, 6, 7]),
         2 => line.done = line.moves,
@@ -355,6 +360,7 @@ fn spoil_line(chance: &mut Chance, registers: &mut Registers) {
             line.x_magnitude = beyond(chance, 1_024);
             line.moves = line.x_magnitude;
         }
+        7 => line.last_word = beyond(chance, ADDRESSES),
         _ => {
             line.y_magnitude = 0;
             line.x_magnitude = 0;
@@ -367,14 +373,15 @@ fn spoil_line(chance: &mut Chance, registers: &mut Registers) {
 
 fn spoil_bytes(chance: &mut Chance, registers: &mut Registers) {
     put_in_bytes(chance, registers);
-    let mut bytes = bytes(chance);
-    match chance.between(0, 5) {
+    let mut bytes = bytes(chance, registers.display_address);
+    match chance.between(0, 6) {
         0 => registers.state = State::Control,
         1 => registers.mode = chance.pick(&[0, 2, 3, 4, 5, 6, 7]),
         2 => bytes.moves_left = 0,
         // Up to 255 only: a wider count may not fit the other simulator's type.
         3 => bytes.moves_left = byte_moves(bytes.byte()) + chance.pick(&[1, 1, 1, 2, 200]),
         4 => bytes.word |= 0o10000,
+        5 => bytes.last_word = beyond(chance, ADDRESSES),
         _ => {
             bytes.word &= !0o3000;
             bytes.side = Side::Right;
@@ -1043,7 +1050,7 @@ mod tests {
     use crate::replay::{read_case, replay, write_case, Outcome};
     use crate::turn::run;
 
-    fn runs(seed: u64, count: usize) -> Vec<RunCase> {
+    pub fn runs(seed: u64, count: usize) -> Vec<RunCase> {
         let mut chance = Chance::new(seed);
         let mut runs = Vec::new();
         while runs.len() < count {
@@ -1054,7 +1061,7 @@ mod tests {
         runs
     }
 
-    fn outcome(case: &RunCase, memory: Vec<u16>, loan: Loan, budget: u32) -> Outcome {
+    pub fn outcome(case: &RunCase, memory: Vec<u16>, loan: Loan, budget: u32) -> Outcome {
         case.outcome_on(memory, |registers, memory, points| {
             run(registers, memory, loan, budget, points)
         })
@@ -1265,7 +1272,7 @@ mod tests {
 
     /// What the parts of a run leave together: their points one behind another, and their beats
     /// added up.
-    fn joined(parts: &[&Outcome]) -> (u32, Vec<u32>) {
+    fn joined(parts: &[&Outcome]) -> (u32, Vec<u64>) {
         let beats = parts.iter().map(|part| part.answer.beats).sum();
         let lit = parts.iter().map(|part| {
             let lit = part.answer.points as usize;

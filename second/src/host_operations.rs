@@ -273,6 +273,7 @@ mod tests {
                 done: 1,
                 lit: true,
                 escape: true,
+                last_word: 0o23456,
             }),
         }
     }
@@ -762,6 +763,7 @@ mod tests {
                 word: 0o1010,
                 side,
                 moves_left: 1,
+                last_word: 0,
             }),
             ..fresh
         };

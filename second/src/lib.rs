@@ -1,5 +1,5 @@
-//! A second simulator of the DEC 338 display, written from document 01, Nos. 1, 2 and 4 of document
-//! 02 and the manual alone.
+//! A second simulator of the DEC 338 display, written from document 01, Nos. 1, 2, 4 and 5 of
+//! document 02 and the manual alone.
 
 #![forbid(unsafe_code)]
 

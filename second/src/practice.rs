@@ -77,14 +77,16 @@ fn run_display_file(file: DisplayFile) -> String {
     written
 }
 
-/// 01: "x, y, intensity, blink", taken out of "x + 1,024·y + 2^20·intensity + 2^23·blink".
-fn point_line(point: u32) -> String {
+/// 01: "x, y, intensity, blink", taken out of "x + 1,024·y + 2^20·intensity + 2^23·blink". 02,
+/// No. 5: the address stands above them, "as a fifth field in five octal digits".
+fn point_line(point: u64) -> String {
     format!(
-        "{} {} {} {}\n",
+        "{} {} {} {} {:05o}\n",
         point % 1_024,
         point / 1_024 % 1_024,
         point / (1 << 20) % 8,
-        point / (1 << 23)
+        point / (1 << 23) % 2,
+        point / (1 << 24)
     )
 }
 
@@ -108,11 +110,12 @@ mod tests {
     const STOP: &str = "00200 1400\n";
     const STOPPED: &str = "ending 12 beats 1\n";
 
+    /// As 02, No. 5 has it.
     #[test]
     fn the_example_of_01() {
         assert_eq!(
             written("00200 1101\n00201 4144\n00202 4310\n00203 1400\n"),
-            "200 100 0 0\nending 12 beats 3\n"
+            "200 100 0 0 00202\nending 12 beats 3\n"
         );
     }
 
@@ -124,7 +127,7 @@ mod tests {
                 "00200 0017\n00201 6302\n00202 1101\n00203 5777\n00204 1777\n00205 4000\n\
                  00206 4000\n00207 1400\n"
             ),
-            "1023 1023 7 1\n0 0 7 1\nending 12 beats 6\n"
+            "1023 1023 7 1 00204\n0 0 7 1 00206\nending 12 beats 6\n"
         );
     }
 
@@ -244,20 +247,47 @@ mod tests {
         let one_up_and_stop = "00204 4000\n00205 1400\n";
         let output = written(&(to_the_last.to_owned() + one_up_and_stop));
         assert_eq!(output.lines().count(), 1_025);
-        assert!(output.starts_with("1 0 0 0\n2 0 0 0\n"));
-        assert!(output.ends_with("\n1023 1 0 0\nending 12 beats 1028\n"));
+        assert!(output.starts_with("1 0 0 0 00202\n2 0 0 0 00202\n"));
+        assert!(output.ends_with("\n1023 1 0 0 00204\nending 12 beats 1028\n"));
         // The same and one more up: its command beat is made, its move is not.
         let one_up_and_another = "00204 0000\n00205 4001\n";
         let output = written(&(to_the_last.to_owned() + one_up_and_another));
         assert_eq!(output.lines().count(), 1_025);
-        assert!(output.ends_with("\n1023 1 0 0\nending 18 beats 1028\n"));
+        assert!(output.ends_with("\n1023 1 0 0 00204\nending 18 beats 1028\n"));
     }
 
     #[test]
     fn the_address_wraps() {
         assert_eq!(
             written("77776 1101\n77777 4144\n00000 4310\n00001 1400\n"),
-            "200 100 0 0\nending 12 beats 3\n"
+            "200 100 0 0 00000\nending 12 beats 3\n"
         );
+    }
+
+    #[test]
+    fn the_fifth_field_is_the_last_word_in_five_digits() {
+        for (input, lines) in [
+            // A point that ends at the end of memory, the brightest in the far corner.
+            (
+                "77773 0017\n77774 6302\n77775 1101\n77776 5777\n77777 5777\n00000 1400\n",
+                "1023 1023 7 1 77777\n",
+            ),
+            // Two bytes of one word, and the next word.
+            (
+                "12344 1111\n12345 5050\n12346 4000\n12347 1400\n",
+                "1 0 0 0 12345\n2 0 0 0 12345\n3 0 0 0 12346\n",
+            ),
+            // A vector over the end of memory, a short vector and a graphplot behind it.
+            (
+                "77776 1121\n77777 4000\n00000 4001\n00001 1141\n00002 4041\n00003 1161\n\
+                 00004 4005\n00005 1400\n",
+                "1 0 0 0 00000\n2 0 0 0 00002\n3 5 0 0 00004\n",
+            ),
+        ] {
+            let output = written(input);
+            let (points, ending) = output.split_at(lines.len());
+            assert_eq!(points, lines);
+            assert!(ending.starts_with("ending 12 "), "{ending}");
+        }
     }
 }

@@ -279,7 +279,7 @@ mod tests {
         };
         let mut registers = given;
         let mut memory = vec![7u16; MEMORY_LENGTH];
-        let mut points = [5u32; 3];
+        let mut points = [5u64; 3];
         let answer = run(&mut registers, &mut memory, Loan::all(), 10, &mut points);
         assert_eq!(
             answer,

@@ -17,7 +17,7 @@ pub enum Side {
 }
 
 /// 01, registers: "a line (two signs, magnitudes up to 1,023, n = the larger, at least 1,
-/// done k below n, lit, escape)".
+/// done k below n, lit, escape)". 02, No. 5: "The motion registers must remember that address".
 #[derive(Clone, Copy, Debug, PartialEq, Eq)]
 pub struct Line {
     pub y_minus: bool,
@@ -30,14 +30,18 @@ pub struct Line {
     pub done: u16,
     pub lit: bool,
     pub escape: bool,
+    /// 15 bits; the address of the last word of the command.
+    pub last_word: u16,
 }
 
-/// 01, registers: "bytes (word, left or right, 1 to 3 moves left ...)".
+/// 01, registers: "bytes (word, left or right, 1 to 3 moves left ...)". 02, No. 5 as for a line.
 #[derive(Clone, Copy, Debug, PartialEq, Eq)]
 pub struct Bytes {
     pub word: u16,
     pub side: Side,
     pub moves_left: u16,
+    /// 15 bits; the address of the last word of the command, which is the word's own.
+    pub last_word: u16,
 }
 
 /// 01, registers: "Motion is nothing; a line ...; or bytes ...".
@@ -231,24 +235,27 @@ impl Registers {
 }
 
 impl Line {
-    /// 01, registers: "magnitudes up to 1,023, n = the larger, at least 1, done k below n".
+    /// 01, registers: "magnitudes up to 1,023, n = the larger, at least 1, done k below n". 02,
+    /// No. 5: a "15-bit address", near the display address or not.
     pub fn is_in_range(&self) -> bool {
         self.y_magnitude <= GREATEST_MAGNITUDE
             && self.x_magnitude <= GREATEST_MAGNITUDE
             && self.moves == self.y_magnitude.max(self.x_magnitude)
             && self.moves >= 1
             && self.done < self.moves
+            && self.last_word < ADDRESSES
     }
 }
 
 impl Bytes {
     /// 01, registers: "1 to 3 moves left and no more than that byte asks; right only if the left
-    /// byte does not escape".
+    /// byte does not escape". 02, No. 5 as for a line.
     pub fn is_in_range(&self) -> bool {
         self.word <= GREATEST_WORD
             && self.moves_left >= 1
             && self.moves_left <= byte_moves(self.byte())
             && (self.side == Side::Left || !byte_escapes(byte_of(self.word, Side::Left)))
+            && self.last_word < ADDRESSES
     }
 
     /// The byte that is being executed.
@@ -304,6 +311,17 @@ mod tests {
             done: 4,
             lit: false,
             escape: false,
+            last_word: 0o201,
+        }
+    }
+
+    /// Left byte 36o: three moves; right byte 12o: one move.
+    fn bytes() -> Bytes {
+        Bytes {
+            word: 0o3612,
+            side: Side::Left,
+            moves_left: 3,
+            last_word: 0o200,
         }
     }
 
@@ -399,11 +417,7 @@ mod tests {
     #[test]
     fn a_held_word_is_accepted_in_every_state() {
         let line = Motion::Line(line());
-        let bytes = Motion::Bytes(Bytes {
-            word: 0o3612,
-            side: Side::Left,
-            moves_left: 3,
-        });
+        let bytes = Motion::Bytes(bytes());
         let still = (0..8).map(|mode| moving(Motion::Nothing, mode));
         let states = [Registers::fresh(), moving(line, 2), moving(bytes, 1)];
         for state in states.into_iter().chain(still) {
@@ -498,12 +512,7 @@ mod tests {
 
     #[test]
     fn bytes_keep_their_rules() {
-        // Left byte 36o: three moves; right byte 12o: one move.
-        let bytes = Bytes {
-            word: 0o3612,
-            side: Side::Left,
-            moves_left: 3,
-        };
+        let bytes = bytes();
         for mode in 0..8 {
             assert_eq!(moving(Motion::Bytes(bytes), mode).are_in_range(), mode == 1);
         }
@@ -546,16 +555,50 @@ mod tests {
         .is_in_range());
         assert!(Bytes {
             word: 0o0612,
-            side: Side::Left,
-            moves_left: 1
+            moves_left: 1,
+            ..bytes
         }
         .is_in_range());
         assert!(!Bytes {
             word: 0o0612,
-            side: Side::Left,
-            moves_left: 2
+            moves_left: 2,
+            ..bytes
         }
         .is_in_range());
+    }
+
+    /// Each motion that the rules allow, with this last word and a display address of any kind.
+    fn telling(last_word: u16) -> Vec<Registers> {
+        let line = Motion::Line(Line {
+            last_word,
+            ..line()
+        });
+        let bytes = Motion::Bytes(Bytes {
+            last_word,
+            ..bytes()
+        });
+        let motions = [(line, 2), (line, 3), (line, 4), (bytes, 1)];
+        let at = |display_address| {
+            motions.map(|(motion, mode)| Registers {
+                display_address,
+                ..moving(motion, mode)
+            })
+        };
+        [0, 1, 0o200, 0o77777].map(at).concat()
+    }
+
+    #[test]
+    fn the_last_word_of_a_motion_is_any_address() {
+        for last_word in [0, 1, 0o177, 0o200, 0o201, 0o40000, 0o77776, 0o77777] {
+            for registers in telling(last_word) {
+                assert!(registers.are_in_range(), "{registers:?}");
+            }
+        }
+        for last_word in [0o100000, 0o100001, 65_534, 65_535] {
+            for registers in telling(last_word) {
+                assert!(!registers.are_in_range(), "{registers:?}");
+            }
+        }
     }
 
     #[test]

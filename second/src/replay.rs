@@ -12,7 +12,7 @@ use crate::turn::run;
 // The widths, which decide between `error N` (it does not fit) and a refusal (it fits but is out
 // of range). The format leaves them to the call's types; these are the types of this library:
 //   16 bits: addr ptr x y buttons cond heldword, the line's magnitudes, n and k, the bytes' word and
-//            moves left, FLO FHI LLO LHI, LO HI, DEFAULT, the pairs' addresses and words;
+//            moves left, from, FLO FHI LLO LHI, LO HI, DEFAULT, the pairs' addresses and words;
 //    8 bits: mode scale intensity, STATE and MODE of a listing;
 //   32 bits: OP, OPERAND, BUDGET;
 //    1 bit:  state, every flag, held, signs, lit, escape, side;
@@ -121,7 +121,7 @@ impl RunCase {
     /// What a run of the case leaves, made on lists of its own.
     pub fn outcome(
         &self,
-        run: impl FnOnce(&mut Registers, &mut [u16], &mut [u32]) -> Answer,
+        run: impl FnOnce(&mut Registers, &mut [u16], &mut [u64]) -> Answer,
     ) -> Outcome {
         self.outcome_on(self.memory(), run)
     }
@@ -130,7 +130,7 @@ impl RunCase {
     pub fn outcome_on(
         &self,
         mut memory: Vec<u16>,
-        run: impl FnOnce(&mut Registers, &mut [u16], &mut [u32]) -> Answer,
+        run: impl FnOnce(&mut Registers, &mut [u16], &mut [u64]) -> Answer,
     ) -> Outcome {
         let mut registers = self.registers;
         let mut points = vec![0; self.room];
@@ -150,7 +150,7 @@ pub struct Outcome {
     pub answer: Answer,
     pub registers: Registers,
     pub memory: Vec<u16>,
-    pub points: Vec<u32>,
+    pub points: Vec<u64>,
 }
 
 /// The numbers of a line, taken one by one. `None` means that the line is no case.
@@ -243,6 +243,7 @@ impl<'a> Numbers<'a> {
         })
     }
 
+    /// The format calls the address of a motion's last word `from`.
     fn motion(&mut self) -> Option<Motion> {
         match self.next(2)? {
             0 => Some(Motion::Nothing),
@@ -255,6 +256,7 @@ impl<'a> Numbers<'a> {
                 done: self.sixteen_bits()?,
                 lit: self.flag()?,
                 escape: self.flag()?,
+                last_word: self.sixteen_bits()?,
             })),
             _ => Some(Motion::Bytes(Bytes {
                 word: self.sixteen_bits()?,
@@ -264,6 +266,7 @@ impl<'a> Numbers<'a> {
                     Side::Left
                 },
                 moves_left: self.sixteen_bits()?,
+                last_word: self.sixteen_bits()?,
             })),
         }
     }
@@ -538,7 +541,7 @@ fn write_changes(line: &mut String, before: &[u16], after: &[u16]) {
     }
 }
 
-fn number(line: &mut String, value: impl Into<u32>) {
+fn number(line: &mut String, value: impl Into<u64>) {
     // Writing to a string cannot fail.
     let _ = write!(line, " {}", value.into());
 }
@@ -587,12 +590,14 @@ fn write_motion(line: &mut String, motion: &Motion) {
             number(line, motion.done);
             number(line, motion.lit);
             number(line, motion.escape);
+            number(line, motion.last_word);
         }
         Motion::Bytes(motion) => {
             number(line, 2u32);
             number(line, motion.word);
             number(line, motion.side == Side::Right);
             number(line, motion.moves_left);
+            number(line, motion.last_word);
         }
     }
 }
@@ -653,7 +658,7 @@ mod tests {
                     100 0 32768 0 32768 8 32768 0 6 64 1032 65 128 128 577 129 2148 130 2248 131 768\n";
         assert_eq!(
             replayed(case),
-            "run 12 4 1 0 132 1 200 100 0 0 0 0 0 0 0 0 0 0 0 0 1 0 0 0 0 0 0 0 0 0 0 0 P 102600 M 0 66\n"
+            "run 12 4 1 0 132 1 200 100 0 0 0 0 0 0 0 0 0 0 0 0 1 0 0 0 0 0 0 0 0 0 0 0 P 2181140680 M 0 66\n"
         );
     }
 
@@ -738,6 +743,115 @@ mod tests {
         for held in ["2 0", "0 65536", "1 65536"] {
             let registers = stopping(0, 1, 0, held);
             assert_eq!(replayed(&format!("op {registers} 1 0\n")), "error 1\n");
+        }
+    }
+
+    /// Running registers in data state, all else 0 but for the place (the display address, x and
+    /// y), the mode and what follows request: held, heldword and the motion.
+    fn drawing(place: [u32; 3], mode: u32, rest: &str) -> String {
+        let [address, x, y] = place;
+        format!("{address} 0 {x} {y} 1 {mode} 0 0 0 0 0 0 0 0 0 0 0 0 0 0 0 0 0 1 0 {rest}")
+    }
+
+    #[test]
+    fn points_and_motions_tell_the_last_word() {
+        let lent = "0 32768 0 0 8 32768 0";
+        for (given, rest, numbers, left, points) in [
+            // A point at 128, 129: 200 + 1,024 times 100 + 2^24 times 129.
+            (
+                drawing([128, 0, 0], 0, "0 0 0"),
+                format!("1 {lent} 2 128 2148 129 2248"),
+                "11 1 1 0",
+                "130 0 200 100 0 0 0 0 0 0 0 0 0 0 0 0 0 0 0 0 0 0 0 1 0 0 0 0".into(),
+                " 2164363464",
+            ),
+            // The same at 77777o, whose last word is word 0.
+            (
+                drawing([32_767, 0, 0], 0, "0 0 0"),
+                format!("1 {lent} 2 32767 2148 0 2248"),
+                "11 1 1 0",
+                "1 0 200 100 0 0 0 0 0 0 0 0 0 0 0 0 0 0 0 0 0 0 0 1 0 0 0 0".into(),
+                " 102600",
+            ),
+            // A vector there, before its first move and after it.
+            (
+                drawing([32_767, 0, 0], 2, "0 0 0"),
+                format!("1 {lent} 2 32767 2049 0 2050"),
+                "11 1 0 0",
+                drawing([1, 0, 0], 2, "0 0 1 0 0 1 2 2 0 1 1 0"),
+                "",
+            ),
+            (
+                drawing([5, 0, 0], 2, "0 0 1 0 0 1 2 2 0 1 1 32766"),
+                format!("1 {lent} 0"),
+                "11 1 1 0",
+                drawing([5, 1, 1], 2, "0 0 1 0 0 1 2 2 1 1 1 32766"),
+                " 549722260481",
+            ),
+            // Both bytes of an increment word, and the motion between them.
+            (
+                drawing([128, 0, 0], 1, "0 0 0"),
+                format!("3 {lent} 1 128 2601"),
+                "11 3 2 0",
+                drawing([129, 2, 1], 1, "0 0 0"),
+                " 2147483649 2147484674",
+            ),
+            (
+                drawing([128, 0, 0], 1, "0 0 0"),
+                format!("2 {lent} 1 128 2601"),
+                "11 2 1 0",
+                drawing([129, 1, 0], 1, "0 0 2 2601 1 1 128"),
+                " 2147483649",
+            ),
+            // A held graphplot word, whatever lies at its address by now.
+            (
+                drawing([128, 0, 0], 6, "1 7 0"),
+                "1 0 0 0 0 8 32768 0 1 128 5".into(),
+                "11 1 1 0",
+                drawing([129, 1, 7], 6, "0 0 0"),
+                " 2147490817",
+            ),
+        ] {
+            assert_eq!(
+                replayed(&format!("run {given} {rest}\n")),
+                format!("run {numbers} {left} P{points} M\n")
+            );
+        }
+    }
+
+    #[test]
+    fn the_greatest_entry_is_2_to_the_39_less_1() {
+        // Intensity 7 and blink, one move right to the far corner, word 77777o.
+        let given = "5 0 1022 1023 1 4 0 7 0 0 0 1 0 0 0 0 0 0 0 0 0 0 0 1 0 0 0 \
+                     1 0 0 0 1 1 0 1 0 32767";
+        let left = "5 0 1023 1023 1 4 0 7 0 0 0 1 0 0 0 0 0 0 0 0 0 0 0 1 0 0 0 0";
+        assert_eq!(
+            replayed(&format!("run {given} 1 0 0 0 0 1 32768 0 0\n")),
+            format!("run 11 1 1 0 {left} P 549755813887 M\n")
+        );
+    }
+
+    #[test]
+    fn a_motion_with_an_unfit_last_word_is_refused_in_its_turn() {
+        for last_word in [32_768, 32_769, 65_535] {
+            for (mode, motion) in [(2, "1 0 0 0 1 1 0 1 1"), (1, "2 512 0 1")] {
+                let given = drawing([128, 0, 0], mode, &format!("0 0 {motion} {last_word}"));
+                assert_eq!(
+                    replayed(&format!("op {given} 99 99\n")),
+                    format!("op 4 0 {given}\n")
+                );
+                for (rest, refusal) in [
+                    ("65536 1 0 0 0 8 32767 0 0", 1),
+                    ("65536 1 0 0 0 8 32768 0 0", 2),
+                    ("0 1 0 0 0 8 32768 0 0", 3),
+                    ("0 0 0 0 0 8 32768 0 0", 4),
+                ] {
+                    assert_eq!(
+                        replayed(&format!("run {given} {rest}\n")),
+                        format!("run {refusal} 0 0 0 {given} P M\n")
+                    );
+                }
+            }
         }
     }
 
@@ -833,21 +947,26 @@ mod tests {
         }
         for (motion, is_case) in [
             ("3", false),
-            ("1 0 0 0 0 0 0 0", false),
-            ("1 1 1 65535 65535 65535 65535 1 1", true),
-            ("1 2 1 65535 65535 65535 65535 1 1", false),
-            ("1 1 2 65535 65535 65535 65535 1 1", false),
-            ("1 1 1 65536 65535 65535 65535 1 1", false),
-            ("1 1 1 65535 65536 65535 65535 1 1", false),
-            ("1 1 1 65535 65535 65536 65535 1 1", false),
-            ("1 1 1 65535 65535 65535 65536 1 1", false),
-            ("1 1 1 65535 65535 65535 65535 2 1", false),
-            ("1 1 1 65535 65535 65535 65535 1 2", false),
-            ("2 65535 1 65535", true),
-            ("2 65536 1 255", false),
-            ("2 65535 2 255", false),
-            ("2 65535 1 65536", false),
-            ("2 0 0", false),
+            ("0 0", false),
+            ("1 0 0 0 0 0 0 0 0", false),
+            ("1 0 0 0 0 0 0 0 0 0 0", false),
+            ("1 1 1 65535 65535 65535 65535 1 1 65535", true),
+            ("1 2 1 65535 65535 65535 65535 1 1 65535", false),
+            ("1 1 2 65535 65535 65535 65535 1 1 65535", false),
+            ("1 1 1 65536 65535 65535 65535 1 1 65535", false),
+            ("1 1 1 65535 65536 65535 65535 1 1 65535", false),
+            ("1 1 1 65535 65535 65536 65535 1 1 65535", false),
+            ("1 1 1 65535 65535 65535 65536 1 1 65535", false),
+            ("1 1 1 65535 65535 65535 65535 2 1 65535", false),
+            ("1 1 1 65535 65535 65535 65535 1 2 65535", false),
+            ("1 1 1 65535 65535 65535 65535 1 1 65536", false),
+            ("2 65535 1 65535 65535", true),
+            ("2 65536 1 255 65535", false),
+            ("2 65535 2 255 65535", false),
+            ("2 65535 1 65536 65535", false),
+            ("2 65535 1 255 65536", false),
+            ("2 0 0 0", false),
+            ("2 0 0 0 0 0", false),
         ] {
             assert_eq!(
                 read_case(&with_number(27, motion)).is_some(),

@@ -8,7 +8,7 @@ use crate::registers::{Motion, Registers, State};
 /// What a beat gives besides the registers it leaves. 01: "A beat lights at most one point".
 #[derive(Clone, Copy, Debug, PartialEq, Eq)]
 pub struct Beat {
-    pub point: Option<u32>,
+    pub point: Option<u64>,
     /// 01: "a beat that stops the display ends the run with 12 or 14".
     pub stop: Option<Ending>,
 }
@@ -29,7 +29,7 @@ pub fn run(
     memory: &mut [u16],
     loan: Loan,
     budget: u32,
-    points: &mut [u32],
+    points: &mut [u64],
 ) -> Answer {
     if let Some(refusal) = refuse_run(registers, memory, loan, budget) {
         return Answer::without_beats(refusal);
@@ -168,7 +168,7 @@ pub mod tests {
     pub struct Bench {
         pub registers: Registers,
         pub memory: Vec<u16>,
-        pub points: Vec<u32>,
+        pub points: Vec<u64>,
         pub loan: Loan,
     }
 
@@ -399,9 +399,10 @@ pub mod tests {
         bench.put(0o204, &[0o1400]);
         assert_eq!(bench.run(5), ended(Ending::InternalStop, 3, 2));
         let level = 5 * 1_048_576 + 8_388_608;
+        let [first, second] = [0o201, 0o203].map(|last_word| level + 16_777_216 * last_word);
         assert_eq!(
             bench.points,
-            [2 + 1_024 + level, 4 + 3 * 1_024 + level, 9, 9]
+            [2 + 1_024 + first, 4 + 3 * 1_024 + second, 9, 9]
         );
     }
 
@@ -425,6 +426,7 @@ pub mod tests {
             word: 0o1010,
             side: Side::Left,
             moves_left: 1,
+            last_word: 0o177,
         });
         bench.run(2);
         assert_eq!(bench.registers.motion, Motion::Nothing);
@@ -441,6 +443,7 @@ pub mod tests {
             done: 0,
             lit: true,
             escape: true,
+            last_word: 0o177,
         });
         assert_eq!(bench.run(1), ended(Ending::BudgetSpent, 1, 0));
         assert_eq!(bench.registers.state, State::Control);
@@ -721,6 +724,7 @@ pub mod tests {
                 done: 0,
                 lit: true,
                 escape: true,
+                last_word: 0,
             })
         );
     }
@@ -798,6 +802,7 @@ pub mod tests {
             word: 0o1000,
             side: Side::Right,
             moves_left: 1,
+            last_word: 0o177,
         });
         bench.registers.hold(0o0013);
         bench.loan = nothing_lent();
@@ -813,6 +818,7 @@ pub mod tests {
             word: 0o1010,
             side: Side::Right,
             moves_left: 1,
+            last_word: 0o177,
         });
         bench.registers.x = 1_023;
         bench.registers.hold(0o0013);
@@ -903,6 +909,6 @@ pub mod tests {
     fn the_practice_example_lights_one_point() {
         let mut bench = Bench::at(0o200, &[0o1101, 0o4144, 0o4310, 0o1400]);
         assert_eq!(bench.run(65_535), ended(Ending::InternalStop, 3, 1));
-        assert_eq!(bench.points[0], 200 + 1_024 * 100);
+        assert_eq!(bench.points[0], 200 + 1_024 * 100 + 16_777_216 * 0o202);
     }
 }

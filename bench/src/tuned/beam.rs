@@ -61,8 +61,8 @@ impl Beam {
     }
 
     /// The beam's part of a point's value.
-    pub fn spot(self) -> u32 {
-        self.0 & LOW_TEN | self.0 >> 6 & LOW_TEN << 10
+    pub fn spot(self) -> u64 {
+        u64::from(self.0 & LOW_TEN | self.0 >> 6 & LOW_TEN << 10)
     }
 }
 
@@ -136,11 +136,12 @@ pub struct Progress {
     pub lit: usize,
 }
 
-/// What the moves of a command need: the paper, the points and their look, and the scale.
+/// What the moves of a command need: the paper, the points and the part of their value that is not
+/// the beam's, and the scale.
 pub struct Ink<'a> {
     pub paper: Paper,
-    pub points: &'a mut [u32],
-    pub glow: u32,
+    pub points: &'a mut [u64],
+    pub glow: u64,
     pub scale: u32,
 }
 
@@ -291,7 +292,7 @@ pub fn increments(
         if escapes || bytes.side == Side::Right {
             return (now, None, escapes);
         }
-        bytes = right(bytes.word);
+        bytes = right(bytes);
     }
 }
 
@@ -303,7 +304,7 @@ fn leave_bytes(registers: &mut Registers, bytes: Bytes, escapes: bool) -> bool {
         return false;
     }
     if !escapes && bytes.side == Side::Left {
-        registers.motion = Motion::Bytes(right(bytes.word));
+        registers.motion = Motion::Bytes(right(bytes));
     }
     escapes
 }
@@ -316,20 +317,21 @@ fn signed(step: u32, minus: bool) -> u32 {
     }
 }
 
-/// The left byte of a word, with all its moves.
-pub fn left(word: u16) -> Bytes {
+/// The left byte of a word at an address, with all its moves.
+pub fn left(word: u16, address: u16) -> Bytes {
     Bytes {
         word,
         side: Side::Left,
         moves_left: (word >> 9 & 3).max(1),
+        last_word: address,
     }
 }
 
-/// The right byte of a word, with all its moves.
-fn right(word: u16) -> Bytes {
+/// The right byte of the same word, with all its moves.
+fn right(bytes: Bytes) -> Bytes {
     Bytes {
-        word,
         side: Side::Right,
-        moves_left: (word >> 3 & 3).max(1),
+        moves_left: (bytes.word >> 3 & 3).max(1),
+        ..bytes
     }
 }

@@ -13,7 +13,7 @@ pub fn beats(
     registers: &mut Registers,
     lent: &Lent,
     paper: Paper,
-    points: &mut [u32],
+    points: &mut [u64],
     held: Option<u32>,
 ) -> Result<(), Ending> {
     let mode = now.mode();
@@ -28,20 +28,23 @@ pub fn beats(
             point(now, paper, points, word, second)
         }
         1 => {
+            let bytes = beam::left(word as u16, now.address as u16);
             now.go_on(1);
-            increments(now, registers, paper, points, beam::left(word as u16))
+            increments(now, registers, paper, points, bytes)
         }
         6 => graphplot(now, registers, paper, points, word),
         _ => {
             // A short vector as the two words of a vector.
-            let (first, second) = if mode == 4 {
+            let (first, second, last_word) = if mode == 4 {
                 let y = word & (BIT_0 | BIT_1) | word >> 6 & 0o17;
-                (y, (word & (BIT_6 | BIT_7)) << 6 | word & 0o17)
+                let x = (word & (BIT_6 | BIT_7)) << 6 | word & 0o17;
+                (y, x, now.address)
             } else {
-                (word, lent.fetch(address_after(now.address, 1))?)
+                let next = address_after(now.address, 1);
+                (word, lent.fetch(next)?, next)
             };
             now.go_on(if mode == 4 { 1 } else { 2 });
-            let line = line(first, second);
+            let line = line(first, second, last_word);
             if line.moves == 0 {
                 now.data &= !line.escape;
                 return Ok(());
@@ -57,10 +60,11 @@ pub fn trace(
     now: &mut Display,
     registers: &mut Registers,
     paper: Paper,
-    points: &mut [u32],
+    points: &mut [u64],
     line: Line,
 ) -> Result<(), Ending> {
-    let (ink, continues) = (now.ink(paper, points), now.mode() == 3);
+    let ink = now.ink(paper, points, line.last_word);
+    let continues = now.mode() == 3;
     let (progress, ending) = beam::trace(ink, now.progress, &line, continues, registers);
     now.progress = progress;
     // Escape takes effect with the last beat, an edge stop included.
@@ -76,10 +80,10 @@ pub fn increments(
     now: &mut Display,
     registers: &mut Registers,
     paper: Paper,
-    points: &mut [u32],
+    points: &mut [u64],
     bytes: Bytes,
 ) -> Result<(), Ending> {
-    let ink = now.ink(paper, points);
+    let ink = now.ink(paper, points, bytes.last_word);
     let (progress, ending, escapes) = beam::increments(ink, now.progress, bytes, registers);
     now.progress = progress;
     if escapes {
@@ -88,9 +92,9 @@ pub fn increments(
     ending.map_or(Ok(()), Err)
 }
 
-/// The line of a vector's two words, y first.
+/// The line of a vector's two words, y first, and the address of its last word.
 #[inline(always)]
-fn line(first: u32, second: u32) -> Line {
+fn line(first: u32, second: u32, last_word: u32) -> Line {
     let y_magnitude = (first & 0o1777) as u16;
     let x_magnitude = (second & 0o1777) as u16;
     Line {
@@ -102,17 +106,18 @@ fn line(first: u32, second: u32) -> Line {
         done: 0,
         lit: first & BIT_0 != 0,
         escape: second & BIT_0 != 0,
+        last_word: last_word as u16,
     }
 }
 
 /// Lights a point where the beam will be, or ends the run if there is no room.
 #[inline(always)]
-fn light(now: &mut Display, points: &mut [u32], beam: Beam) -> Result<(), Ending> {
+fn light(now: &mut Display, points: &mut [u64], beam: Beam, last_word: u32) -> Result<(), Ending> {
     if beam.in_sector_0() {
         let place = points
             .get_mut(now.progress.lit)
             .ok_or(Ending::PointListFull)?;
-        *place = now.glow() | beam.spot();
+        *place = now.glow(last_word) | beam.spot();
         now.progress.lit += 1;
     }
     Ok(())
@@ -122,7 +127,7 @@ fn light(now: &mut Display, points: &mut [u32], beam: Beam) -> Result<(), Ending
 fn point(
     now: &mut Display,
     paper: Paper,
-    points: &mut [u32],
+    points: &mut [u64],
     first: u32,
     second: u32,
 ) -> Result<(), Ending> {
@@ -134,7 +139,7 @@ fn point(
         beam = beam.with_x(second);
     }
     if first & BIT_0 != 0 || paper.all_lit {
-        light(now, points, beam)?;
+        light(now, points, beam, address_after(now.address, 1))?;
     }
     now.progress.beam = beam;
     now.data = second & BIT_0 == 0;
@@ -147,7 +152,7 @@ fn graphplot(
     now: &mut Display,
     registers: &mut Registers,
     paper: Paper,
-    points: &mut [u32],
+    points: &mut [u64],
     word: u32,
 ) -> Result<(), Ending> {
     let up = word & BIT_1 != 0;
@@ -160,7 +165,7 @@ fn graphplot(
     };
     let edge = match paper.moved(now.progress.beam, beam::forward(up, now.scale())) {
         Ok(beam) => {
-            light(now, points, set(beam))?;
+            light(now, points, set(beam), now.address)?;
             now.progress.beam = set(beam);
             None
         }

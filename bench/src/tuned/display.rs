@@ -27,6 +27,9 @@ pub const INTENSITY: u32 = 0o7;
 /// Blink in a point's value.
 pub const BLINK: u32 = 1 << 23;
 
+/// The place of the last word's address in a point's value.
+const LAST_WORD: u32 = 24;
+
 /// The registers that a beat may change.
 #[derive(Clone, Copy)]
 pub struct Display {
@@ -101,16 +104,17 @@ impl Display {
         (self.status & MODE) >> 3
     }
 
-    /// The part of a point's value that is not the beam's.
-    pub fn glow(&self) -> u32 {
-        (self.status & INTENSITY) << 20 | self.blink
+    /// The part of a point's value that is not the beam's, for a command with this last word.
+    pub fn glow(&self, last_word: u32) -> u64 {
+        let look = (self.status & INTENSITY) << 20 | self.blink;
+        u64::from(last_word) << LAST_WORD | u64::from(look)
     }
 
-    pub fn ink<'a>(&self, paper: Paper, points: &'a mut [u32]) -> Ink<'a> {
+    pub fn ink<'a>(&self, paper: Paper, points: &'a mut [u64], last_word: u16) -> Ink<'a> {
         Ink {
             paper,
             points,
-            glow: self.glow(),
+            glow: self.glow(u32::from(last_word)),
             scale: self.scale(),
         }
     }

@@ -7,7 +7,8 @@
 //! - pen, scale, mode and intensity are one number, laid out as a push stores them (`display.rs`);
 //! - what no beat changes (stop request, pen hold, conditions) is looked at once, not in each turn;
 //! - a held word is used before the loop of commands, which only fetches;
-//! - a line or a byte makes its moves in a loop of its own, with no division in it.
+//! - a line or a byte makes its moves in a loop of its own, with no division in it;
+//! - what all points of a command have in common, its last word too, is put together once.
 
 mod beam;
 mod control;
@@ -31,7 +32,7 @@ pub fn run(
     memory: &mut [u16],
     loan: Loan,
     budget: u32,
-    points: &mut [u32],
+    points: &mut [u64],
 ) -> Answer {
     let Ok(words) = <&mut [u16; WORDS]>::try_from(memory) else {
         return Answer::without_beats(Ending::MemoryLength);
@@ -64,7 +65,7 @@ fn turns(
     now: &mut Display,
     registers: &mut Registers,
     lent: &mut Lent,
-    points: &mut [u32],
+    points: &mut [u64],
 ) -> Result<Infallible, Ending> {
     let paper = Paper::new(registers);
     match mem::replace(&mut registers.motion, Motion::Nothing) {
@@ -108,7 +109,7 @@ fn commands(
     registers: &mut Registers,
     lent: &mut Lent,
     paper: Paper,
-    points: &mut [u32],
+    points: &mut [u64],
 ) -> Result<Infallible, Ending> {
     if let Some(word) = registers.held() {
         let made;
@@ -134,7 +135,7 @@ fn held_command(
     registers: &mut Registers,
     lent: Lent,
     paper: Paper,
-    points: &mut [u32],
+    points: &mut [u64],
     word: u16,
 ) -> (Display, Result<(), Ending>) {
     let (mut now, mut lent) = (now, lent);
@@ -154,7 +155,7 @@ mod tests {
     use second::replay::{Case, GivenMemory, Outcome, RunCase};
     use second::{LoanRange, State};
 
-    type Run = fn(&mut Registers, &mut [u16], Loan, u32, &mut [u32]) -> Answer;
+    type Run = fn(&mut Registers, &mut [u16], Loan, u32, &mut [u64]) -> Answer;
 
     fn outcome(case: &RunCase, run: Run) -> Outcome {
         case.outcome(|registers, memory, points| {
@@ -172,16 +173,47 @@ mod tests {
     #[test]
     fn it_answers_as_the_second_simulator() {
         let mut chance = Chance::new(7);
-        let (mut runs, mut stops, mut held) = (0, 0, 0);
+        let (mut runs, mut stops, mut held, mut unfinished) = (0, 0, 0, 0);
         while runs < 50_000 {
             if let Case::Run(case) = next_case(&mut chance) {
                 let left = same_outcome(&case);
                 runs += 1;
                 stops += u32::from(left.answer.ending == Ending::ExternalStop);
                 held += u32::from(case.registers.word_is_held);
+                unfinished += u32::from(left.registers.motion != Motion::Nothing);
             }
         }
         assert!(stops > 2_000 && held > 10_000, "{stops} {held}");
+        assert!(unfinished > 5_000, "{unfinished}");
+    }
+
+    /// Each word in each mode at the end of memory, where a second word is word 0, with a budget
+    /// that ends most commands in mid motion.
+    #[test]
+    fn it_tells_every_last_word_as_the_second_simulator() {
+        for mode in [0, 1, 2, 3, 4, 6] {
+            for word in 0..=0o7777 {
+                same_outcome(&RunCase {
+                    registers: Registers {
+                        display_address: 0o77777,
+                        x: 500,
+                        y: 500,
+                        state: State::Data,
+                        mode,
+                        running: true,
+                        ..Registers::fresh()
+                    },
+                    budget: 4,
+                    loan: Loan::all(),
+                    room: 4,
+                    given: GivenMemory {
+                        length: WORDS,
+                        default: 0o4321,
+                        pairs: vec![(0o77777, word)],
+                    },
+                });
+            }
+        }
     }
 
     /// Each word held in control state and in each mode, over a word that is not lent.

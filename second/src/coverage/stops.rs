@@ -1,8 +1,8 @@
 //! What is reached of 02, No. 4: external stops, the words that they hold, and what uses, keeps and
 //! drops these.
 
-use super::{control_word_kind, touches, Coverage, CONTROL_WORDS, OPERATIONS};
-use crate::refusals_and_endings::{Ending, Loan};
+use super::{control_word_kind, touches, Coverage, Turn, CONTROL_WORDS, OPERATIONS};
+use crate::refusals_and_endings::Ending;
 use crate::registers::{address_after, pointer_after, pointer_before, Motion, Registers, State};
 use crate::replay::{Outcome, RunCase};
 use crate::words::GREATEST_WORD;
@@ -265,19 +265,6 @@ pub fn run_reached(coverage: &mut Coverage, case: &RunCase, outcome: &Outcome) {
 }
 
 // ---------------------------------------------------------------- turns
-
-/// One turn of a run, seen from outside.
-pub struct Turn<'a> {
-    pub loan: Loan,
-    pub before: &'a Registers,
-    pub after: &'a Registers,
-    /// The word of memory at the display address before the turn.
-    pub own: u16,
-    /// The first word of the next command, held or else in memory.
-    pub first: u16,
-    /// Whether the turn before it moved.
-    pub behind_a_move: bool,
-}
 
 impl Turn<'_> {
     /// One of `OWN_WORDS`.

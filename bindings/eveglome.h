@@ -17,8 +17,8 @@ extern "C" {
 
 /* The places of a row of registers: 27 registers, the kind of motion, and the motion's numbers. Each place has its limits here; a number outside them is
    refusal 4. Refused together, as 4 too, are only a word where none is held, a motion with a state or a mode that it cannot have, and numbers of a motion that
-   do not agree, as said with them. Any other registers go together: a display may run with a flag on that stops it, a stopped one may have a stop request, and
-   a word may be held beside a motion. */
+   do not agree, as said with them. Any other registers go together: a display may run with a flag on that stops it, a stopped one may have a stop request, a
+   word may be held beside a motion, and the last word of a motion may lie anywhere. */
 enum eveglome_place {
     EVEGLOME_ADDRESS = 0,                 /* display address, up to 32,767 */
     EVEGLOME_POINTER = 1,                 /* pushdown pointer, up to 4,095 */
@@ -58,14 +58,16 @@ enum eveglome_place {
     EVEGLOME_LINE_DONE = 33,              /* 01's k: below n, so up to 1,022 */
     EVEGLOME_LINE_LIT = 34,               /* 0 or 1 */
     EVEGLOME_LINE_ESCAPE = 35,            /* 0 or 1 */
+    EVEGLOME_LINE_LAST_WORD = 36,         /* the address of the last word of the line's command, up to 32,767; the points of its moves tell it */
 
     /* Bytes of an increment word, only in data state and mode 1. Bits 1 and 2 of a byte say its moves: 00 one, and the byte escapes; 01, 10, 11 one, two,
        three. */
     EVEGLOME_BYTES_WORD = 28,             /* up to 4,095 */
     EVEGLOME_BYTES_SIDE = 29,             /* 0 the left byte, 1 the right one, which only if the left byte does not escape */
     EVEGLOME_BYTES_MOVES_LEFT = 30,       /* 1 to 3, and no more than the moves of that byte */
+    EVEGLOME_BYTES_LAST_WORD = 31,        /* the address of the increment word, up to 32,767; the points of its moves tell it */
 
-    EVEGLOME_ROW = 36                     /* how many places there are */
+    EVEGLOME_ROW = 37                     /* how many places there are */
 };
 
 /* The places of a loan: two half-open ranges, which may be empty or overlap. The file range may be fetched, the list range fetched and written. A range with
@@ -159,11 +161,14 @@ enum eveglome_operation {
 /* How many bytes are room for any listing: the words of all memory, with the longest line, which has 43 bytes. */
 #define EVEGLOME_LONGEST_LISTING 1409024
 
-/* The parts of an entry of the point list, x + 1,024 y + 2^20 intensity + 2^23 blink: x and y up to 1,023, intensity up to 7, blink 0 or 1. */
+/* The parts of an entry of the point list, x + 1,024 y + 2^20 intensity + 2^23 blink + 2^24 last word: x and y up to 1,023, intensity up to 7, blink 0 or 1,
+   last word up to 32,767. That is the address of the last word of the command that lit the point: of the second word in modes 0, 2 and 3, which is word 0 where
+   the first is word 32,767; of the only word in modes 1, 4 and 6. A word that was held counts as one fetched at the display address. */
 #define EVEGLOME_POINT_X(point) ((unsigned)((point) & 1023))
 #define EVEGLOME_POINT_Y(point) ((unsigned)((point) >> 10 & 1023))
 #define EVEGLOME_POINT_INTENSITY(point) ((unsigned)((point) >> 20 & 7))
 #define EVEGLOME_POINT_BLINK(point) ((unsigned)((point) >> 23 & 1))
+#define EVEGLOME_POINT_LAST_WORD(point) ((unsigned)((point) >> 24 & 32767))
 
 /* Writes fresh registers: all zero, control state, not running, no word held, no motion. */
 void eveglome_fresh(uint16_t registers[EVEGLOME_ROW]);
@@ -174,7 +179,7 @@ void eveglome_operate(uint16_t registers[EVEGLOME_ROW], uint32_t operation, uint
 /* Runs the display for at most `budget` beats, up to 65,535. The points that it lights stand in the first entries of `points`, as many as it answers; the rest
    stays. Where a word is held, the next command uses it and does not fetch the word at its address; once that command is made, none is held. Second words are
    always fetched. Refused as 1, 2, 3 or 4, in this order. */
-void eveglome_run(uint16_t registers[EVEGLOME_ROW], const uint16_t loan[EVEGLOME_LOAN], uint16_t *memory, size_t memory_length, uint32_t *points,
+void eveglome_run(uint16_t registers[EVEGLOME_ROW], const uint16_t loan[EVEGLOME_LOAN], uint16_t *memory, size_t memory_length, uint64_t *points,
                   size_t points_length, uint32_t budget, uint32_t answer[EVEGLOME_ANSWER]);
 
 /* Lists the words from `low` up to, not including, `high`, both up to 32,768, as the display would meet them from this state, 0 control or 1 data, and this

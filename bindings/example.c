@@ -1,5 +1,6 @@
-/* The example of document 01's practice program, from C: one point is drawn, and its place, the ending and the beats are written. Then a run with too large
-   a budget, which is refused. Then the words of the example as a listing, which is read back into another memory, and refused once a line is spoiled. */
+/* The example of document 01's practice program, from C: one point is drawn, and its place, intensity and blink, the address of the word that drew it, the
+   ending and the beats are written. Then a run with too large a budget, which is refused. Then the words of the example as a listing, which is read back into
+   another memory, and refused once a line is spoiled. */
 #include "eveglome.h"
 #include <stdio.h>
 
@@ -8,7 +9,7 @@ static uint16_t memory[EVEGLOME_MEMORY], copy[EVEGLOME_MEMORY];
 int main(void) {
     const uint16_t loan[EVEGLOME_LOAN] = {0, EVEGLOME_MEMORY, 0, EVEGLOME_MEMORY};
     uint16_t registers[EVEGLOME_ROW];
-    uint32_t points[16] = {0};
+    uint64_t points[16] = {0};
     uint32_t answer[EVEGLOME_ANSWER];
     uint8_t text[4 * 43];
     uint32_t listed[EVEGLOME_LISTING_ANSWER];
@@ -22,8 +23,8 @@ int main(void) {
     eveglome_operate(registers, EVEGLOME_START, 00200, answer);
     eveglome_run(registers, loan, memory, EVEGLOME_MEMORY, points, 16, 65535, answer);
     for (uint32_t i = 0; i < answer[EVEGLOME_POINTS]; i++)
-        printf("%u %u %u %u\n", EVEGLOME_POINT_X(points[i]), EVEGLOME_POINT_Y(points[i]), EVEGLOME_POINT_INTENSITY(points[i]),
-               EVEGLOME_POINT_BLINK(points[i]));
+        printf("%u %u %u %u %05o\n", EVEGLOME_POINT_X(points[i]), EVEGLOME_POINT_Y(points[i]), EVEGLOME_POINT_INTENSITY(points[i]),
+               EVEGLOME_POINT_BLINK(points[i]), EVEGLOME_POINT_LAST_WORD(points[i]));
     printf("ending %u beats %u\n", (unsigned)answer[EVEGLOME_ENDING], (unsigned)answer[EVEGLOME_BEATS]);
 
     eveglome_run(registers, loan, memory, EVEGLOME_MEMORY, points, 16, 65536, answer);

@@ -20,8 +20,8 @@ static struct name places[] = {
     NAME(PEN_SENSE), NAME(BLINK), NAME(IDLE), NAME(BUTTONS), NAME(HIT_1), NAME(HIT_2), NAME(INTERNAL_STOP_FLAG), NAME(EXTERNAL_STOP_FLAG),
     NAME(VERTICAL_EDGE_FLAG), NAME(HORIZONTAL_EDGE_FLAG), NAME(PEN_FLAG), NAME(MANUAL_INTERRUPT_FLAG), NAME(CONDITIONS), NAME(RUNNING),
     NAME(STOP_REQUEST), NAME(HELD), NAME(HELD_WORD), NAME(MOTION), NAME(LINE_MINUS_Y), NAME(LINE_MINUS_X), NAME(LINE_MAGNITUDE_Y),
-    NAME(LINE_MAGNITUDE_X), NAME(LINE_MOVES), NAME(LINE_DONE), NAME(LINE_LIT), NAME(LINE_ESCAPE), NAME(BYTES_WORD), NAME(BYTES_SIDE),
-    NAME(BYTES_MOVES_LEFT), LAST};
+    NAME(LINE_MAGNITUDE_X), NAME(LINE_MOVES), NAME(LINE_DONE), NAME(LINE_LIT), NAME(LINE_ESCAPE), NAME(LINE_LAST_WORD), NAME(BYTES_WORD),
+    NAME(BYTES_SIDE), NAME(BYTES_MOVES_LEFT), NAME(BYTES_LAST_WORD), LAST};
 
 static struct name loans[] = {NAME(FILE_LOW), NAME(FILE_HIGH), NAME(LIST_LOW), NAME(LIST_HIGH), LAST};
 
@@ -45,7 +45,7 @@ enum { SPARE = 64, ROOM = 8, TEXT = 1024, PARTS = 64, OPERATIONS = 1024, WORDS =
 static uint16_t registers[EVEGLOME_ROW + SPARE];
 static uint16_t loan[EVEGLOME_LOAN + SPARE];
 static uint16_t memory[EVEGLOME_MEMORY + SPARE];
-static uint32_t points[ROOM];
+static uint64_t points[ROOM];
 static uint32_t answer[EVEGLOME_ANSWER + SPARE];
 static uint8_t text_list[TEXT];
 static uint32_t listing_answer[EVEGLOME_LISTING_ANSWER + SPARE];
@@ -116,15 +116,16 @@ static void set(char *setting) {
         table_fault("cannot be set", key);
 }
 
-/* Whether an entry of the point list is the point of the table, x,y,intensity,blink: by 01's sum, and by each of its parts. */
-static int is_point(uint32_t entry, char *text) {
-    static const unsigned shifts[] = {0, 10, 20, 23};
-    const unsigned parts[] = {EVEGLOME_POINT_X(entry), EVEGLOME_POINT_Y(entry), EVEGLOME_POINT_INTENSITY(entry), EVEGLOME_POINT_BLINK(entry)};
-    uint32_t sum = 0;
+/* Whether an entry of the point list is the point of the table, x,y,intensity,blink,word: by the sum of 02, No. 5, and by each of its parts. */
+static int is_point(uint64_t entry, char *text) {
+    static const unsigned shifts[] = {0, 10, 20, 23, 24};
+    const unsigned parts[] = {EVEGLOME_POINT_X(entry), EVEGLOME_POINT_Y(entry), EVEGLOME_POINT_INTENSITY(entry), EVEGLOME_POINT_BLINK(entry),
+                              EVEGLOME_POINT_LAST_WORD(entry)};
+    uint64_t sum = 0;
     int same = 1;
-    for (size_t i = 0; i < 4; i++) {
+    for (size_t i = 0; i < 5; i++) {
         if (!text) table_fault("no point in", shown);
-        uint32_t part = (uint32_t)number_of(cut(&text, ','));
+        uint64_t part = number_of(cut(&text, ','));
         same &= parts[i] == part;
         sum += part << shifts[i];
     }
@@ -225,8 +226,8 @@ static void call(const char *clause, char *parts[], size_t count) {
            (unsigned long)answer[EVEGLOME_ENDING], (unsigned long)answer[EVEGLOME_FENCE_ADDRESS], (unsigned long)answer[EVEGLOME_WORD],
            (unsigned long)answer[EVEGLOME_BEATS], (unsigned long)answer[EVEGLOME_POINTS]);
     for (size_t i = 0; i < answer[EVEGLOME_POINTS] && i < ROOM; i++)
-        printf(" %u,%u,%u,%u", EVEGLOME_POINT_X(points[i]), EVEGLOME_POINT_Y(points[i]), EVEGLOME_POINT_INTENSITY(points[i]),
-               EVEGLOME_POINT_BLINK(points[i]));
+        printf(" %u,%u,%u,%u,%#o", EVEGLOME_POINT_X(points[i]), EVEGLOME_POINT_Y(points[i]), EVEGLOME_POINT_INTENSITY(points[i]),
+               EVEGLOME_POINT_BLINK(points[i]), EVEGLOME_POINT_LAST_WORD(points[i]));
     printf("\n");
     wrong = 1;
 }

@@ -6,8 +6,8 @@ use eveglome::{ending, fresh, operate, operation, run, Loan, Point, MEMORY};
 
 const START: usize = 0o200;
 
-/// Runs an exercise and prints each point that it lights, as x, y, intensity and blink, and last
-/// how the run ended and after how many beats.
+/// Runs an exercise and prints each point that it lights, as x, y, intensity, blink and the address
+/// of the word that lit it, and last how the run ended and after how many beats.
 fn draw(exercise: &[u16], loan: Loan) {
     let mut memory = vec![0; MEMORY];
     memory[START..START + exercise.len()].copy_from_slice(exercise);
@@ -19,8 +19,11 @@ fn draw(exercise: &[u16], loan: Loan) {
 
     for &entry in &points[..answer.points as usize] {
         let point = Point::of(entry);
-        let blink = u8::from(point.blink);
-        println!("{} {} {} {blink}", point.x, point.y, point.intensity);
+        let (blink, word) = (u8::from(point.blink), point.last_word);
+        println!(
+            "{} {} {} {blink} {word:05o}",
+            point.x, point.y, point.intensity
+        );
     }
     println!("ending {} beats {}", answer.ending, answer.beats);
     match answer.ending {

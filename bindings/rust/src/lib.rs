@@ -7,7 +7,7 @@
 //! [`fresh`], [`operate`] and [`run`] are the display's calls; [`list`] writes words as lines with
 //! the manual's mnemonics, and [`read`] reads such lines back. Their numbers have names: [`place`]
 //! names the registers, [`operation`] the host operations, [`ending`] the refusals and how a run
-//! ended. [`Point::of`] takes a lit point apart.
+//! ended. [`Point::of`] takes a lit point apart, and tells which word lit it.
 #![deny(missing_docs)]
 
 #[cfg(test)]
@@ -102,16 +102,22 @@ pub struct Point {
     pub intensity: u8,
     /// Whether it blinks.
     pub blink: bool,
+    /// The address of the last word of the command that lit it, up to 32,767: of the second word in
+    /// modes 0, 2 and 3, which is word 0 where the first is word 32,767; of the only word in modes
+    /// 1, 4 and 6. A word that was held counts as one fetched at the display address.
+    pub last_word: u16,
 }
 
 impl Point {
-    /// Takes an entry of the point list apart: x + 1,024 y + 2^20 intensity + 2^23 blink.
-    pub fn of(entry: u32) -> Point {
+    /// Takes an entry of the point list apart: x + 1,024 y + 2^20 intensity + 2^23 blink + 2^24
+    /// last word.
+    pub fn of(entry: u64) -> Point {
         Point {
             x: (entry & 1_023) as u16,
             y: (entry >> 10 & 1_023) as u16,
             intensity: (entry >> 20 & 7) as u8,
             blink: entry >> 23 & 1 == 1,
+            last_word: (entry >> 24 & 32_767) as u16,
         }
     }
 }
@@ -177,7 +183,7 @@ extern "C" {
         loan: &[u16; loan::LOAN],
         memory: *mut u16,
         memory_length: usize,
-        points: *mut u32,
+        points: *mut u64,
         points_length: usize,
         budget: u32,
         answer: &mut [u32; answer::ANSWER],
@@ -232,7 +238,7 @@ pub fn run(
     row: &mut Row,
     loan: Loan,
     memory: &mut [u16],
-    points: &mut [u32],
+    points: &mut [u64],
     budget: u32,
 ) -> Answer {
     let mut numbers = [0; answer::ANSWER];

@@ -43,10 +43,10 @@ fn operation_of(text: &str) -> u32 {
     find(operation::ALL, text).unwrap_or_else(|| number(text))
 }
 
-/// A point of the table, x,y,intensity,blink: its entry by 01's sum, and its parts.
-fn point_of(text: &str) -> (u32, Point) {
-    let numbers: Vec<u32> = text.split(',').map(number).collect();
-    let [x, y, intensity, blink] = numbers[..] else {
+/// A point of the table, x,y,intensity,blink,word: its entry by the sum of 02, No. 5, and its parts.
+fn point_of(text: &str) -> (u64, Point) {
+    let numbers: Vec<u64> = text.split(',').map(|part| number(part).into()).collect();
+    let [x, y, intensity, blink, word] = numbers[..] else {
         panic!("no point: {text}")
     };
     let point = Point {
@@ -54,8 +54,10 @@ fn point_of(text: &str) -> (u32, Point) {
         y: y as u16,
         intensity: intensity as u8,
         blink: blink == 1,
+        last_word: word as u16,
     };
-    (x + (y << 10) + (intensity << 20) + (blink << 23), point)
+    let entry = x + (y << 10) + (intensity << 20) + (blink << 23) + (word << 24);
+    (entry, point)
 }
 
 /// The text of the table that these words are, a space between two.
@@ -83,7 +85,7 @@ struct Desk {
     row: Row,
     loan: Loan,
     memory: Vec<u16>,
-    points: Vec<u32>,
+    points: Vec<u64>,
     text: Vec<u8>,
 }
 
@@ -150,7 +152,7 @@ impl Desk {
     }
 
     /// Makes a call and answers what it gave, and what the table says that it gives.
-    fn call(&mut self, asked: &[&str], told: &[&str]) -> [(Answer, Vec<(u32, Point)>); 2] {
+    fn call(&mut self, asked: &[&str], told: &[&str]) -> [(Answer, Vec<(u64, Point)>); 2] {
         let just = Answer {
             ending: ending::DONE,
             word: 0,

@@ -30,7 +30,8 @@ names! {
     /// too, are only a word where none is held, a motion with a state or a mode that it cannot
     /// have, and numbers of a motion that do not agree, as said with them. Any other registers go
     /// together: a display may run with a flag on that stops it, a stopped one may have a stop
-    /// request, and a word may be held beside a motion.
+    /// request, a word may be held beside a motion, and the last word of a motion may lie
+    /// anywhere.
     place: usize {
         /// The display address, up to 32,767.
         ADDRESS = 0,
@@ -106,6 +107,9 @@ names! {
         LINE_LIT = 34,
         /// 0 or 1.
         LINE_ESCAPE = 35,
+        /// The address of the last word of the line's command, up to 32,767; the points of its
+        /// moves tell it.
+        LINE_LAST_WORD = 36,
         /// Up to 4,095. Bits 1 and 2 of each of its bytes say the byte's moves: 00 one, and the
         /// byte escapes; 01, 10, 11 one, two, three.
         BYTES_WORD = 28,
@@ -113,8 +117,10 @@ names! {
         BYTES_SIDE = 29,
         /// 1 to 3, and no more than the moves of that byte.
         BYTES_MOVES_LEFT = 30,
+        /// The address of the increment word, up to 32,767; the points of its moves tell it.
+        BYTES_LAST_WORD = 31,
         /// How many places there are.
-        ROW = 36,
+        ROW = 37,
     }
 }
 

@@ -1,7 +1,7 @@
 //! The calls, done and refused, through the safe interface.
 
 use eveglome::{ending, fresh, list, operate, operation, place, read, run};
-use eveglome::{Answer, Loan, Refusal, Row, Stretch, LONGEST_LISTING, MEMORY};
+use eveglome::{Answer, Loan, Point, Refusal, Row, Stretch, LONGEST_LISTING, MEMORY};
 
 /// An ending with no word, no beats, no points and no address, as every refusal is.
 fn just(ending: u32) -> Answer {
@@ -119,7 +119,7 @@ fn operations_are_refused_in_the_order_4_5_6() {
 }
 
 /// A flag of 2, a mode of 256, a word where none is held, a held word of 13 bits, a third kind of
-/// motion: no register can hold them.
+/// motion, a last word's address of 16 bits: no register can hold them.
 #[test]
 fn a_row_that_does_not_fit_is_refused_as_4() {
     use place::*;
@@ -165,6 +165,8 @@ fn a_row_that_does_not_fit_is_refused_as_4() {
         (fresh(), &[MOTION], 3),
         (line, &line_flags, 2),
         (bytes, &[BYTES_SIDE], 2),
+        (line, &[LINE_LAST_WORD], 32_768),
+        (bytes, &[BYTES_LAST_WORD], 32_768),
     ] {
         assert_eq!(
             operate(&mut row.clone(), operation::READ_POINTER, 0),
@@ -187,7 +189,7 @@ fn a_run_draws_a_point() {
     let mut memory = vec![0; MEMORY];
     memory[0o200..0o204].copy_from_slice(&[0o1101, 0o4144, 0o4310, 0o1400]);
     let before = memory.clone();
-    let mut points = [u32::MAX; 4];
+    let mut points = [u64::MAX; 4];
     let mut row = fresh();
     operate(&mut row, operation::START, 0o200);
     let answer = run(&mut row, Loan::ALL, &mut memory, &mut points, 65_535);
@@ -199,11 +201,140 @@ fn a_run_draws_a_point() {
         address: 0,
     };
     assert_eq!(answer, ended);
-    assert_eq!(points, [200 + 1_024 * 100, u32::MAX, u32::MAX, u32::MAX]);
+    let entry = 200 + 1_024 * 100 + (0o202 << 24);
+    assert_eq!(points, [entry, u64::MAX, u64::MAX, u64::MAX]);
     assert_eq!(memory, before);
     assert_eq!((row.0[place::X], row.0[place::Y]), (200, 100));
     assert_eq!(row.0[place::INTERNAL_STOP_FLAG], 1);
     assert_eq!(row.0[place::RUNNING], 0);
+}
+
+/// A display that runs in data state and this mode, its beam at (0, 0).
+fn drawing(address: u16, mode: u16) -> Row {
+    with_all(&[
+        (place::ADDRESS, address),
+        (place::STATE, 1),
+        (place::MODE, mode),
+        (place::RUNNING, 1),
+    ])
+}
+
+/// The entries that a run of so many beats fills.
+fn lit(row: &mut Row, loan: Loan, memory: &mut [u16], budget: u32) -> Vec<u64> {
+    let mut points = [0; 8];
+    let answer = run(row, loan, memory, &mut points, budget);
+    assert_eq!(
+        (answer.ending, answer.beats),
+        (ending::BUDGET_SPENT, budget)
+    );
+    points[..answer.points as usize].to_vec()
+}
+
+/// The point (x, y) with the last word of its command; intensity and blink are 0.
+fn told(x: u64, y: u64, last_word: u16) -> u64 {
+    x + (y << 10) + (u64::from(last_word) << 24)
+}
+
+/// Each command lights (1, 0). A second word behind 77777 is word 0.
+#[test]
+fn a_point_tells_the_last_word_of_its_command() {
+    for (mode, first, second, beats) in [
+        (0, 0o4000, Some(1), 1),
+        (1, 0o5000, None, 2),
+        (2, 0o4000, Some(1), 2),
+        (3, 0o4000, Some(1), 2),
+        (4, 0o4001, None, 2),
+        (6, 0, None, 1),
+    ] {
+        for address in [0, 0o200, 0o77776, 0o77777] {
+            let mut memory = vec![0; MEMORY];
+            memory[usize::from(address)] = first;
+            let mut last_word = address;
+            if let Some(word) = second {
+                last_word = (address + 1) % 0o100000;
+                memory[usize::from(last_word)] = word;
+            }
+            let mut row = drawing(address, mode);
+            let points = lit(&mut row, Loan::ALL, &mut memory, beats);
+            assert_eq!(points, [told(1, 0, last_word)], "mode {mode}");
+        }
+    }
+}
+
+/// The budgets end between two moves. What the words are by then does not matter, nor does the
+/// loan.
+#[test]
+fn a_motion_remembers_the_last_word_of_its_command() {
+    use place::*;
+    let vector = [
+        (X, 1),
+        (Y, 1),
+        (MOTION, 1),
+        (LINE_MAGNITUDE_Y, 1),
+        (LINE_MAGNITUDE_X, 2),
+        (LINE_MOVES, 2),
+        (LINE_DONE, 1),
+        (LINE_LIT, 1),
+        (LINE_LAST_WORD, 0o201),
+    ];
+    let increment = [
+        (X, 1),
+        (Y, 1),
+        (MOTION, 2),
+        (BYTES_WORD, 0o5150),
+        (BYTES_SIDE, 1),
+        (BYTES_MOVES_LEFT, 1),
+        (BYTES_LAST_WORD, 0o200),
+    ];
+    for (mode, words, behind, motion, last_word) in [
+        (2, [0o4001, 0o0002], 0o202, &vector[..], 0o201),
+        (1, [0o5150, 0], 0o201, &increment, 0o200),
+    ] {
+        let mut memory = vec![0; MEMORY];
+        memory[0o200..0o202].copy_from_slice(&words);
+        let mut row = drawing(0o200, mode);
+        let points = lit(&mut row, Loan::ALL, &mut memory, 2);
+        assert_eq!(points, [told(1, 1, last_word)]);
+        let mut moving = drawing(behind, mode);
+        for &(place, number) in motion {
+            moving.0[place] = number;
+        }
+        assert_eq!(row, moving);
+
+        let points = lit(&mut row, NOTHING, &mut vec![4_096; MEMORY], 1);
+        assert_eq!(points, [told(2, 1, last_word)]);
+    }
+}
+
+/// The last word of a motion may lie anywhere. One move to the right lights the far corner.
+#[test]
+fn the_largest_entry_has_39_bits() {
+    use place::*;
+    let mut row = with_all(&[
+        (ADDRESS, 5),
+        (X, 1_022),
+        (Y, 1_023),
+        (STATE, 1),
+        (MODE, 4),
+        (INTENSITY, 7),
+        (BLINK, 1),
+        (RUNNING, 1),
+        (MOTION, 1),
+        (LINE_MAGNITUDE_X, 1),
+        (LINE_MOVES, 1),
+        (LINE_LIT, 1),
+        (LINE_LAST_WORD, 0o77777),
+    ]);
+    let points = lit(&mut row, NOTHING, &mut vec![0; MEMORY], 1);
+    assert_eq!(points, [(1 << 39) - 1]);
+    let corner = Point {
+        x: 1_023,
+        y: 1_023,
+        intensity: 7,
+        blink: true,
+        last_word: 0o77777,
+    };
+    assert_eq!(Point::of(points[0]), corner);
 }
 
 #[test]
@@ -329,6 +460,18 @@ fn a_second_stop_keeps_the_held_word() {
     let mut stopped = holding(0o500);
     stopped.0[place::EXTERNAL_STOP_FLAG] = 1;
     assert_eq!(row, stopped);
+}
+
+/// The graphplot word 0007 is held, and moves x right by one and sets y to 7. The word in memory is
+/// another by then, and none is lent.
+#[test]
+fn a_held_word_is_told_by_the_address_it_is_used_at() {
+    let mut row = holding(7);
+    row.0[place::STATE] = 1;
+    row.0[place::MODE] = 6;
+    operate(&mut row, operation::RESUME, 0);
+    let points = lit(&mut row, NOTHING, &mut vec![5; MEMORY], 1);
+    assert_eq!(points, [told(1, 7, 0o200)]);
 }
 
 #[test]

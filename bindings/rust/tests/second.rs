@@ -2,6 +2,8 @@
 //! and read. A row has its numbers in the order of the replay format, so both are compared as lines
 //! of that format.
 
+use std::fmt::Display;
+
 use eveglome::{list, operate, place, read, run, Loan, Refusal, Row, Stretch};
 use second::generate::{cases_of_all_memory, cases_of_every_word, next_case, Chance};
 use second::replay::{answer_case, write_case, Case, ListCase, ReadCase, RunCase};
@@ -13,8 +15,8 @@ const CASES: usize = 5_000;
 fn written(kind: u16) -> usize {
     let last = match kind {
         0 => place::MOTION,
-        1 => place::LINE_ESCAPE,
-        _ => place::BYTES_MOVES_LEFT,
+        1 => place::LINE_LAST_WORD,
+        _ => place::BYTES_LAST_WORD,
     };
     last + 1
 }
@@ -40,7 +42,7 @@ fn row_of(case: &Case) -> Row {
 }
 
 /// A line of the format: a name, and each number after a space.
-fn line(name: &str, numbers: impl IntoIterator<Item = u32>) -> String {
+fn line<N: Display>(name: &str, numbers: impl IntoIterator<Item = N>) -> String {
     let mut text = name.to_string();
     for number in numbers {
         text.push_str(&format!(" {number}"));

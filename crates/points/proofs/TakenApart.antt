@@ -7,7 +7,6 @@ use borrow.Author.Tests.{ltb-true}
 use Rattle.words.specs.Words.{pick}
 use Rattle.words.proofs.Laws.{both}
 use Rattle.paper.specs.DataWords.{sectorZero, point}
-use Rattle.paper.specs.Entry.{Entry}
 use Rattle.points.specs.Points.{pointX, pointY, pointIntensity, pointBlink, pointWord, Apart}
 
 on-screen : (x y : ℕ) → sectorZero x y ≡ true → (x < 1024) × (y < 1024)

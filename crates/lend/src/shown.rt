@@ -72,14 +72,14 @@ pub(crate) fn write_registers(r: Registers) {
     let kind = row[numbers::KIND];
     if kind == 1 {
         write_names(
-            b"line, minus y=line, minus x=line, magnitude of y=line, magnitude of x=line, moves=line, moves made=line, lit=line, escape=line, address of its last word#",
+            b"line, minus y=line, minus x=line, magnitude of y=line, magnitude of x=line, moves=line, moves made=line, lit=line, escape=line, last word#",
             &row,
             numbers::KIND + 1,
         );
     }
     if kind == 2 {
         write_names(
-            b"bytes, word#bytes, right byte=bytes, moves left=bytes, address of its last word#",
+            b"bytes, word#bytes, right byte=bytes, moves left=bytes, last word#",
             &row,
             numbers::KIND + 1,
         );

@@ -53,17 +53,19 @@ pub struct Base {
     pub mode: u8,
     // The state: data, or control where it is off.
     pub datastate: bool,
+    // Pen enable.
+    pub pen: bool,
     pub running: bool,
     // The flags of the two edges: horizontal is x's.
     pub horizontal: bool,
     pub vertical: bool,
     pub idle: bool,
     pub blink: bool,
-    // Pen enable, pen hold, and the light pen sense indicator (LPSI).
-    pub pen: bool,
+    // Pen hold.
     pub hold: bool,
     // A stop request that waits.
     pub request: bool,
+    // The light pen sense indicator (LPSI).
     pub sense: bool,
     // The hit flags of bank 1, buttons 0 to 5, and bank 2, buttons 6 to 11.
     pub hit1: bool,

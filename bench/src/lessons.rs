@@ -1,4 +1,4 @@
-//! The three lessons that are timed. Each goes round a loop until its budget is spent.
+//! The four lessons that are timed. Each goes round a loop until its budget is spent.
 
 use second::{operate, Loan, LoanRange, Registers};
 
@@ -8,11 +8,14 @@ pub const BEATS: u32 = 60_000;
 pub const ROOM: usize = BEATS as usize;
 const WORDS: usize = 32_768;
 
-/// What a class is lent: its file, and a pushdown list of 32 entries.
+/// What a class is lent: its file, with the table and the routines of its characters in it, and a
+/// pushdown list of 32 entries.
 const FILE: LoanRange = LoanRange {
     low: 0o1000,
-    high: 0o2000,
+    high: 0o3000,
 };
+const TABLE: u16 = 0o2000;
+const ROUTINES: u16 = 0o2200;
 const LIST: LoanRange = LoanRange {
     low: 0o7000,
     high: 0o7100,
@@ -25,17 +28,19 @@ pub struct Lesson {
     pub loan: Loan,
 }
 
-pub fn all() -> [Lesson; 3] {
+pub fn all() -> [Lesson; 4] {
     [
         lesson("drawing", drawing()),
         lesson("lines", lines()),
         lesson("commands", commands()),
+        lesson("text", text()),
     ]
 }
 
-/// A fresh display, its pointer at the list, started at the file.
+/// A fresh display, its pointer at the list and its starting address register at the table, started
+/// at the file.
 fn lesson(name: &'static str, file: File) -> Lesson {
-    let operations = [(2, LIST.low), (1, FILE.low)];
+    let operations = [(2, LIST.low), (30, TABLE / 512), (1, FILE.low)];
     let registers = operations
         .iter()
         .fold(Registers::fresh(), |registers, &(operation, operand)| {
@@ -66,6 +71,7 @@ const INCREMENT: u16 = 1;
 const VECTOR: u16 = 2;
 const VECTOR_CONTINUE: u16 = 3;
 const SHORT_VECTOR: u16 = 4;
+const CHARACTER: u16 = 5;
 const GRAPHPLOT: u16 = 6;
 
 /// Bit 0: a first word asks for points, a second one escapes.
@@ -84,6 +90,12 @@ impl File {
 
     fn put(&mut self, words: &[u16]) {
         self.words.extend_from_slice(words);
+    }
+
+    /// Nothing up to an address.
+    fn pass_to(&mut self, address: u16) {
+        assert!(self.here() <= address, "no room before {address:o}");
+        self.words.resize(usize::from(address - FILE.low), 0);
     }
 
     /// Scale and intensity by their enable bits.
@@ -266,4 +278,120 @@ fn commands() -> File {
     }
     file.jump(round);
     file
+}
+
+/// Lines of text in two sizes, from the top of the screen down.
+fn text() -> File {
+    let alphabet = Alphabet::new();
+    let mut codes = Vec::new();
+    for (size, line) in [
+        (SMALL, "THE TALE AT THE INLET"),
+        (LARGE, "A LINE IN THE ZENITH"),
+        (SMALL, "NINE HATS IN THE LANE"),
+        (LARGE, "HELEN ATE THE LENTILS"),
+        (SMALL, "THE EXIT IS AT THE ISLE"),
+        (LARGE, "A VEIL HAS NINE TASSELS"),
+    ] {
+        codes.extend([size, RETURN, LINE_FEED]);
+        codes.extend(line.chars().flat_map(codes_of));
+    }
+    // One of them may be a right character that the other drops.
+    codes.extend([END, END]);
+    let mut file = File::new();
+    let round = file.here();
+    file.start_at(0, 1_000);
+    file.enter(CHARACTER);
+    for pair in codes.chunks_exact(2) {
+        file.put(&[pair[0] << 6 | pair[1]]);
+    }
+    file.jump(round);
+    file.pass_to(TABLE);
+    file.put(&alphabet.table);
+    file.put(&alphabet.routines);
+    file
+}
+
+/// Letters of increment words, each with the way to the next one. The first is the manual's.
+const INCREMENT_LETTERS: [(char, &[u16]); 9] = [
+    ('A', &[0o1672, 0o7251, 0o6057, 0o7674, 0o3762, 0o2701]),
+    ('E', &[0o7272, 0o7034, 0o3660, 0o2436, 0o7050, 0o2000]),
+    ('H', &[0o7272, 0o3670, 0o5072, 0o3676, 0o2000]),
+    ('I', &[0o2072, 0o7236, 0o3630, 0o1000]),
+    ('L', &[0o7272, 0o3636, 0o7050, 0o2000]),
+    ('N', &[0o7272, 0o7757, 0o7252, 0o3636, 0o2000]),
+    ('S', &[0o7050, 0o7274, 0o5472, 0o7050, 0o3636, 0o2000]),
+    ('T', &[0o3232, 0o7050, 0o2476, 0o7630, 0o1000]),
+    (' ', &[0o3030, 0o0000]),
+];
+
+/// Letters of short vectors.
+const VECTOR_LETTERS: [(char, &[u16]); 3] = [
+    ('V', &[0o0600, 0o6602, 0o4602, 0o2643]),
+    ('X', &[0o4604, 0o0024, 0o6604, 0o0043]),
+    ('Z', &[0o0600, 0o4004, 0o6624, 0o4004, 0o0043]),
+];
+
+// The codes behind those of the letters. The lower case has all of them but `LOWER`, which the upper
+// case has.
+const SMALL: u16 = 0o60;
+const LARGE: u16 = 0o61;
+const RETURN: u16 = 0o62;
+const LINE_FEED: u16 = 0o63;
+const UPPER: u16 = 0o64;
+const LOWER: u16 = 0o65;
+const END: u16 = 0o66;
+
+/// Control characters, by their places in the table.
+const CONTROLS: [(u16, u16); 6] = [
+    (SMALL, 0o4415),
+    (LARGE, 0o4516),
+    (RETURN, 0o6100),
+    (UPPER, 0o5400),
+    (0o100 | LOWER, 0o5000),
+    (END, 0o6040),
+];
+
+/// A table of two cases: letters of increment words in the lower one, of short vectors in the upper
+/// one; and the routines behind it.
+struct Alphabet {
+    table: [u16; 128],
+    routines: Vec<u16>,
+}
+
+impl Alphabet {
+    fn new() -> Alphabet {
+        let mut alphabet = Alphabet {
+            table: [0; 128],
+            routines: Vec::new(),
+        };
+        for (code, (_, words)) in (0..).zip(INCREMENT_LETTERS) {
+            alphabet.routine(code, 0, words);
+        }
+        for (code, (_, words)) in (0o100..).zip(VECTOR_LETTERS) {
+            alphabet.routine(code, 0o2000, words);
+        }
+        // Nine dark moves down, as the manual's.
+        alphabet.routine(LINE_FEED, 0o2000, &[0o3140]);
+        for (code, word) in CONTROLS {
+            alphabet.table[usize::from(code)] = word;
+        }
+        alphabet
+    }
+
+    /// A routine of a kind, and the dispatch word that leads to it.
+    fn routine(&mut self, code: u16, kind: u16, words: &[u16]) {
+        let start = ROUTINES - TABLE + self.routines.len() as u16;
+        self.table[usize::from(code)] = kind | start;
+        self.routines.extend_from_slice(words);
+    }
+}
+
+/// A letter, or one of the upper case between the characters that change the case.
+fn codes_of(letter: char) -> Vec<u16> {
+    let place = |letters: &[(char, &[u16])]| letters.iter().position(|one| one.0 == letter);
+    match (place(&INCREMENT_LETTERS), place(&VECTOR_LETTERS)) {
+        (Some(code), _) => vec![code as u16],
+        (None, Some(code)) => vec![UPPER, code as u16, LOWER],
+        (None, None) => panic!("{letter} is no letter of the alphabet"),
+    }
 }

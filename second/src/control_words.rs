@@ -47,12 +47,18 @@ fn set_scale_and_pen(registers: &mut Registers, word: u16) {
     }
 }
 
-/// 01, control word 0: "scale, pen, intensity by enable bits".
-fn parameter(registers: &mut Registers, word: u16) -> Beat {
+/// 01, control word 0: "scale, pen, intensity by enable bits". Manual A1.1.1: a parameter control
+/// character has them in the same bits.
+pub fn set_parameters(registers: &mut Registers, word: u16) {
     set_scale_and_pen(registers, word);
     if bit(word, 8) {
         registers.intensity = field(word, 9, 11) as u8;
     }
+}
+
+/// 01, control word 0.
+fn parameter(registers: &mut Registers, word: u16) -> Beat {
+    set_parameters(registers, word);
     go_on(registers);
     Beat::quiet()
 }
@@ -230,10 +236,10 @@ fn skip_on_flags(registers: &mut Registers, word: u16) -> Beat {
 /// bit 11 off". Manual 2.1.7.4: bits 6 and 8 enable, bits 7 and 9 count down when 1.
 fn count(registers: &mut Registers, word: u16) -> Beat {
     if bit(word, 6) {
-        registers.scale = counted(registers.scale, bit(word, 7), 3);
+        count_scale(registers, bit(word, 7));
     }
     if bit(word, 8) {
-        registers.intensity = counted(registers.intensity, bit(word, 9), 7);
+        count_intensity(registers, bit(word, 9));
     }
     if bit(word, 10) {
         registers.blink = true;
@@ -243,6 +249,16 @@ fn count(registers: &mut Registers, word: u16) -> Beat {
     }
     go_on(registers);
     Beat::quiet()
+}
+
+/// The scale one up or down, stopping at the ends.
+pub fn count_scale(registers: &mut Registers, down: bool) {
+    registers.scale = counted(registers.scale, down, 3);
+}
+
+/// The intensity one up or down, stopping at the ends.
+pub fn count_intensity(registers: &mut Registers, down: bool) {
+    registers.intensity = counted(registers.intensity, down, 7);
 }
 
 fn counted(value: u8, down: bool, greatest: u8) -> u8 {

@@ -1,5 +1,6 @@
 //! How often a stream of cases reaches each rule, seen from outside by runs of one beat each.
 
+mod characters;
 mod points;
 mod stops;
 
@@ -14,7 +15,7 @@ use crate::host_operations::operate;
 use crate::listing::{ListingRefusal, Part, Place, MNEMONICS};
 use crate::refusals_and_endings::{Answer, Ending, Loan, MEMORY_LENGTH};
 use crate::registers::{
-    address_after, pointer_after, pointer_before, Motion, Registers, Side, State,
+    address_after, pointer_after, pointer_before, Character, Motion, Registers, Side, Stage, State,
 };
 use crate::replay::{Case, GivenMemory, ListCase, ReadCase, RunCase};
 use crate::turn::run;
@@ -88,19 +89,21 @@ const TOLD_DIFFERS: &str = "fence tells another touch than the first barred one 
 const NOT_READ_BACK: &str = "listing not read back to its words (should be 0)";
 const NOT_LISTED_SO: &str = "reading accepted of a text that its words do not list (should be 0)";
 const REFUSAL_WROTE: &str = "refused reading that changed a word (should be 0)";
-const SHOULD_BE_0: [&str; 8] = [
+const SHOULD_BE_0: [&str; 10] = [
     STEPWISE_DIFFERS,
     TOLD_DIFFERS,
     stops::STOP_DIFFERS,
     points::ENTRY_DIFFERS,
     points::MOTION_DIFFERS,
+    characters::ENTRY_DIFFERS,
+    characters::ROUTINE_DIFFERS,
     NOT_READ_BACK,
     NOT_LISTED_SO,
     REFUSAL_WROTE,
 ];
 
-const OPERATIONS: [u32; 19] = [
-    1, 2, 3, 4, 5, 6, 7, 8, 9, 10, 11, 12, 20, 21, 22, 23, 24, 25, 26,
+const OPERATIONS: [u32; 21] = [
+    1, 2, 3, 4, 5, 6, 7, 8, 9, 10, 11, 12, 20, 21, 22, 23, 24, 25, 26, 30, 31,
 ];
 
 const CONTROL_WORDS: [&str; 13] = [
@@ -237,6 +240,7 @@ fn row_names() -> Vec<String> {
     }
     names.extend(stops::row_names());
     names.extend(points::row_names());
+    names.extend(characters::row_names());
     names.extend(listing_row_names());
     names.extend(reading_row_names());
     names.extend(SHOULD_BE_0.map(String::from));
@@ -365,6 +369,8 @@ fn operation_reached(coverage: &mut Coverage, before: Registers, operation: u32,
         coverage.count(&format!("operation refused {}", ending.number()));
         stops::refusal_reached(coverage, "operation", &before, ending);
         points::refusal_reached(coverage, "operation", &before, ending);
+        characters::refusal_reached(coverage, "operation", &before, ending);
+        characters::operation_refused(coverage, operation, operand, ending);
         return;
     }
     coverage.count(&format!("operation {operation} accepted"));
@@ -372,6 +378,8 @@ fn operation_reached(coverage: &mut Coverage, before: Registers, operation: u32,
     stops::operation_reached(coverage, &before, &after, operation);
     points::registers_reached(coverage, "operation", &before);
     points::operation_reached(coverage, &before, &after, operation);
+    characters::registers_reached(coverage, "operation", &before);
+    characters::operation_reached(coverage, &before, &after, operation, word);
     match operation {
         4 if !before.running => {
             coverage.count("resume of a stopped display");
@@ -405,12 +413,14 @@ fn run_reached(coverage: &mut Coverage, case: &RunCase) {
         coverage.count(&format!("run refused {}", answer.ending.number()));
         stops::refusal_reached(coverage, "run", &case.registers, answer.ending);
         points::refusal_reached(coverage, "run", &case.registers, answer.ending);
+        characters::refusal_reached(coverage, "run", &case.registers, answer.ending);
         return;
     }
     coverage.count(&format!("ending {}", answer.ending.number()));
     stops::registers_reached(coverage, "run", &case.registers);
     stops::run_reached(coverage, case, &whole);
     points::registers_reached(coverage, "run", &case.registers);
+    characters::registers_reached(coverage, "run", &case.registers);
     loan_reached(coverage, case.loan);
     coverage.count_if(case.room == 0, "room 0");
     coverage.count_if(case.room == 1, "room 1");
@@ -448,8 +458,13 @@ struct Turn<'a> {
     own: u16,
     /// The first word of the next command, held or else in memory.
     first: u16,
-    /// Whether the turn before it moved.
+    /// Whether the turn before it went on with a motion, and whether that escaped to control state.
     behind_a_move: bool,
+    behind_an_escape: bool,
+    /// Whether the turn before it ended a character word.
+    behind_a_character: bool,
+    /// Whether the routine word, if there is one, was not fetched by the run.
+    handed_in: bool,
     /// The command that it is a part of. There is none as long as a motion goes on that the run was
     /// given.
     command: Option<Command>,
@@ -475,6 +490,9 @@ fn beat_by_beat(
     let mut beats = 0;
     let mut lit = 0;
     let mut behind_a_move = false;
+    let mut behind_an_escape = false;
+    let mut behind_a_character = false;
+    let mut handed_in = true;
     let mut command = None;
     while beats < case.budget {
         let before = *registers;
@@ -501,22 +519,31 @@ fn beat_by_beat(
             own,
             first: words[0],
             behind_a_move,
+            behind_an_escape,
+            behind_a_character,
+            handed_in,
             command,
             point: rest.first().copied().filter(|_| answer.points == 1),
         };
+        let is_last = beats == case.budget;
+        let mut ended_a_character = behind_a_character;
         if answer.beats == 1 {
-            beat_reached(coverage, &before, registers, words, answer);
+            beat_reached(coverage, &before, turn.after, words, answer);
             stops::beat_reached(coverage, &turn);
             points::beat_reached(coverage, &turn, memory);
-            behind_a_move = before.motion != Motion::Nothing;
+            characters::beat_reached(coverage, &turn, memory, answer, is_last);
+            ended_a_character = matches!(before.motion, Motion::Character(_))
+                && turn.after.motion == Motion::Nothing;
         }
-        if answer.ending != Ending::BudgetSpent || beats == case.budget {
+        if answer.ending != Ending::BudgetSpent || is_last {
             points::ending_reached(coverage, &turn, answer.ending);
+            characters::ending_reached(coverage, &turn, answer.ending, ended_a_character);
         }
         if answer.ending != Ending::BudgetSpent {
             if answer.beats == 0 {
                 barred_touch_reached(coverage, case.loan, &before, memory, answer.ending);
                 stops::ending_reached(coverage, &turn, answer.ending);
+                characters::barred_fetch_reached(coverage, &before, answer.ending);
             }
             return Answer {
                 ending: answer.ending,
@@ -524,6 +551,11 @@ fn beat_by_beat(
                 points: lit,
             };
         }
+        behind_a_move = before.motion != Motion::Nothing;
+        let escaped = before.state == State::Data && registers.state == State::Control;
+        behind_an_escape = behind_a_move && escaped;
+        behind_a_character = ended_a_character;
+        handed_in &= !fetches_a_routine_word(&before);
     }
     let ending = if registers.running {
         Ending::BudgetSpent
@@ -534,6 +566,13 @@ fn beat_by_beat(
         ending,
         beats,
         points: lit,
+    }
+}
+
+fn fetches_a_routine_word(before: &Registers) -> bool {
+    match before.motion {
+        Motion::Character(character) => matches!(character.stage, Stage::RoutineWord(_)),
+        Motion::Nothing | Motion::Line(_) | Motion::Bytes(_) => false,
     }
 }
 
@@ -579,6 +618,11 @@ fn beat_reached(
             byte_move_reached(coverage, before, after);
             bytes.byte() >= 0o40
         }
+        (Motion::Character(character), _) => match character.stage {
+            Stage::Line(line) => line.lit,
+            Stage::Bytes(bytes) => bytes.byte() >= 0o40,
+            Stage::TableWord | Stage::RoutineWord(_) => false,
+        },
     };
     if answer.points == 1 {
         coverage.count("point lit");
@@ -588,9 +632,19 @@ fn beat_reached(
         let counted = before.state == State::Data || !matches!(field(words[0], 0, 2), 2 | 3);
         coverage.count_if(counted, "display address counted over 77777o");
     }
-    let moves = before.motion != Motion::Nothing || before.state == State::Data && before.mode == 6;
-    if moves {
+    if moves(before) {
         edges_reached(coverage, before, after, words[0]);
+    }
+}
+
+/// Whether the next beat of a display moves, as a motion or as a graphplot.
+fn moves(before: &Registers) -> bool {
+    match before.motion {
+        Motion::Nothing => before.state == State::Data && before.mode == 6,
+        Motion::Line(_) | Motion::Bytes(_) => true,
+        Motion::Character(character) => {
+            matches!(character.stage, Stage::Line(_) | Stage::Bytes(_))
+        }
     }
 }
 
@@ -684,7 +738,7 @@ fn line_move_reached(coverage: &mut Coverage, before: &Registers, after: &Regist
         Motion::Line(line) => {
             coverage.count_if(mode == 3 && line.done == 0, "vector continue starting over");
         }
-        Motion::Bytes(_) => {}
+        Motion::Bytes(_) | Motion::Character(_) => {}
     }
 }
 
@@ -748,6 +802,8 @@ fn barred_touch_reached(
     let own = peek(memory, before.display_address);
     let first = before.held().unwrap_or(own);
     match ending {
+        // A character's is told apart.
+        Ending::WordTooWide if before.motion != Motion::Nothing => {}
         Ending::WordTooWide => {
             let name = if before.stop_request {
                 "word above 4,095 at a stop's fetch"
@@ -805,6 +861,13 @@ impl Touch {
 /// 01, one turn of a run: the touches of a stop, or of a command beat in their order, by its first
 /// word. 02, No. 4: a held word is not fetched again.
 fn touches(before: &Registers, first: u16) -> Vec<Touch> {
+    if let Motion::Character(character) = before.motion {
+        return match character.stage {
+            Stage::TableWord => vec![Touch::fetch("table word", table_place(before, &character))],
+            Stage::RoutineWord(routine) => vec![Touch::fetch("routine word", routine.next)],
+            Stage::Bytes(_) | Stage::Line(_) => Vec::new(),
+        };
+    }
     let pointer = before.pushdown_pointer;
     let second_word = Touch::fetch("second word", address_after(before.display_address, 1));
     let mut touches = Vec::new();
@@ -837,6 +900,16 @@ fn touches(before: &Registers, first: u16) -> Vec<Touch> {
         _ => {}
     }
     touches
+}
+
+/// Manual, appendix 1: the table word's address by the bits of the CHAC.
+fn table_place(registers: &Registers, character: &Character) -> u16 {
+    let code = match (character.seven_bits, character.side) {
+        (true, _) => character.word & 0o177,
+        (false, Side::Left) => character.word >> 6 | u16::from(registers.upper_case) << 6,
+        (false, Side::Right) => character.word & 0o77 | u16::from(registers.upper_case) << 6,
+    };
+    u16::from(registers.starting_address) << 9 | code
 }
 
 /// The touches of a beat that the loan does not allow, and the ending that tells of them.

@@ -1,5 +1,7 @@
-//! The data words of modes 0 to 4 and 6, the moves they ask for, edges and lit points.
+//! The data words of modes 0 to 4 and 6, the moves they ask for, edges and lit points. Those of mode
+//! 5 are in `characters.rs`.
 
+use crate::characters::character_word;
 use crate::refusals_and_endings::{Ending, LentMemory};
 use crate::registers::{
     address_after, byte_direction, byte_escapes, byte_lit, byte_moves, byte_of, Bytes, Line,
@@ -9,8 +11,8 @@ use crate::turn::Beat;
 use crate::words::{bit, field};
 
 /// 01, data words: the command beat, by mode. `first` is the word at the display address, fetched or
-/// held; a second one is fetched here. Modes 5 and 7 end the run before any beat, so the last arm
-/// only says that ending again.
+/// held; a second one is fetched here. Mode 7 ends the run before any beat, so the last arm only
+/// says that ending again.
 pub fn data_command_beat(
     registers: &mut Registers,
     memory: &LentMemory,
@@ -21,6 +23,7 @@ pub fn data_command_beat(
         1 => Ok(increment(registers, first)),
         2 | 3 => Ok(vector(registers, first, second_word(registers, memory)?)),
         4 => Ok(short_vector(registers, first)),
+        5 => Ok(character_word(registers, first)),
         6 => Ok(graphplot(registers, first)),
         _ => Err(Ending::UnusableMode),
     }
@@ -204,8 +207,13 @@ fn point(registers: &mut Registers, first: u16, second: u16) -> Beat {
 /// 01, increment: the command beat only fetches; each move is a beat of its own.
 fn increment(registers: &mut Registers, word: u16) -> Beat {
     let last_word = go_on(registers, 1);
-    registers.motion = Motion::Bytes(start_of_byte(word, Side::Left, last_word));
+    registers.motion = Motion::Bytes(start_of_bytes(word, last_word));
     Beat::quiet()
+}
+
+/// An increment word with all its moves before it.
+pub fn start_of_bytes(word: u16, last_word: u16) -> Bytes {
+    start_of_byte(word, Side::Left, last_word)
 }
 
 /// A byte with all its moves before it.
@@ -236,35 +244,65 @@ fn direction_steps(direction: u16, distance: u16) -> (Step, Step) {
     }
 }
 
+/// What a move leaves of the word or words that asked for it.
+pub enum Rest<T> {
+    /// Moves.
+    Moves(T),
+    /// Nothing, but for its escape if it has one.
+    Nothing { escape: bool },
+}
+
+impl<T> Rest<T> {
+    /// The moves as something else.
+    pub fn map<U>(self, as_other: impl FnOnce(T) -> U) -> Rest<U> {
+        match self {
+            Rest::Moves(moves) => Rest::Moves(as_other(moves)),
+            Rest::Nothing { escape } => Rest::Nothing { escape },
+        }
+    }
+}
+
 /// 01, increment: one move of a byte, and what follows it.
 pub fn byte_move_beat(registers: &mut Registers, bytes: Bytes) -> Beat {
+    match rest_of_bytes(bytes) {
+        Rest::Moves(bytes) => registers.motion = Motion::Bytes(bytes),
+        Rest::Nothing { escape } => end_command(registers, escape),
+    }
+    byte_move(registers, bytes)
+}
+
+/// One move of a byte: the beam, the edge and the point.
+pub fn byte_move(registers: &mut Registers, bytes: Bytes) -> Beat {
     let byte = bytes.byte();
     let (y, x) = direction_steps(byte_direction(byte), distance(registers.scale));
     let moved = Moved::of(registers, y, x);
-    moved.make(registers);
-    after_byte_move(registers, bytes);
-    let stop = edge_stop(registers, &moved);
-    Beat {
-        point: lit_point(registers, byte_lit(byte), moved.violates(), bytes.last_word),
-        stop,
-    }
+    make_move(registers, &moved, byte_lit(byte), bytes.last_word)
 }
 
 /// 01, increment: "An escape in the left byte drops the right one". The change to the right byte
 /// belongs to the left byte's last move, so that a stop there leaves the right byte to resume.
-fn after_byte_move(registers: &mut Registers, bytes: Bytes) {
+pub fn rest_of_bytes(bytes: Bytes) -> Rest<Bytes> {
     if bytes.moves_left > 1 {
-        registers.motion = Motion::Bytes(Bytes {
+        Rest::Moves(Bytes {
             moves_left: bytes.moves_left - 1,
             ..bytes
-        });
+        })
     } else if byte_escapes(bytes.byte()) {
-        end_command(registers, true);
+        Rest::Nothing { escape: true }
     } else if bytes.side == Side::Left {
-        let right = start_of_byte(bytes.word, Side::Right, bytes.last_word);
-        registers.motion = Motion::Bytes(right);
+        Rest::Moves(start_of_byte(bytes.word, Side::Right, bytes.last_word))
     } else {
-        end_command(registers, false);
+        Rest::Nothing { escape: false }
+    }
+}
+
+/// A move made: where it leads, its edge stop, and its point.
+fn make_move(registers: &mut Registers, moved: &Moved, asked: bool, last_word: u16) -> Beat {
+    moved.make(registers);
+    let stop = edge_stop(registers, moved);
+    Beat {
+        point: lit_point(registers, asked, moved.violates(), last_word),
+        stop,
     }
 }
 
@@ -272,51 +310,63 @@ fn after_byte_move(registers: &mut Registers, bytes: Bytes) {
 /// asks for the points, of the second escapes; bit 1 is the sign, bits 2 to 11 the magnitude.
 fn vector(registers: &mut Registers, first: u16, second: u16) -> Beat {
     let last_word = go_on(registers, 2);
-    start_line(
-        registers,
-        Line {
-            y_minus: bit(first, 1),
-            x_minus: bit(second, 1),
-            y_magnitude: field(first, 2, 11),
-            x_magnitude: field(second, 2, 11),
-            moves: 0,
-            done: 0,
-            lit: bit(first, 0),
-            escape: bit(second, 0),
-            last_word,
-        },
-    )
+    let rest = start_of_line(Line {
+        y_minus: bit(first, 1),
+        x_minus: bit(second, 1),
+        y_magnitude: field(first, 2, 11),
+        x_magnitude: field(second, 2, 11),
+        moves: 0,
+        done: 0,
+        lit: bit(first, 0),
+        escape: bit(second, 0),
+        last_word,
+    });
+    begin_line(registers, rest)
 }
 
-/// 01, short vector. Manual 2.2.5: the same as a vector in one word, four bits a magnitude.
+/// 01, short vector.
 fn short_vector(registers: &mut Registers, word: u16) -> Beat {
     let last_word = go_on(registers, 1);
-    start_line(
-        registers,
-        Line {
-            y_minus: bit(word, 1),
-            x_minus: bit(word, 7),
-            y_magnitude: field(word, 2, 5),
-            x_magnitude: field(word, 8, 11),
-            moves: 0,
-            done: 0,
-            lit: bit(word, 0),
-            escape: bit(word, 6),
-            last_word,
-        },
-    )
+    begin_line(registers, start_of_short_vector(word, last_word))
+}
+
+/// Manual 2.2.5: the same as a vector in one word, four bits a magnitude.
+pub fn start_of_short_vector(word: u16, last_word: u16) -> Rest<Line> {
+    start_of_line(Line {
+        y_minus: bit(word, 1),
+        x_minus: bit(word, 7),
+        y_magnitude: field(word, 2, 5),
+        x_magnitude: field(word, 8, 11),
+        moves: 0,
+        done: 0,
+        lit: bit(word, 0),
+        escape: bit(word, 6),
+        last_word,
+    })
 }
 
 /// 01, data words: "If both magnitudes are 0, in modes 2, 3 or 4, the command beat ends it with no
 /// point". Else n is the larger magnitude and the moves begin with the next beat.
-fn start_line(registers: &mut Registers, line: Line) -> Beat {
-    let moves = line.y_magnitude.max(line.x_magnitude);
-    if moves == 0 {
-        end_command(registers, line.escape);
-    } else {
-        registers.motion = Motion::Line(Line { moves, ..line });
+fn start_of_line(line: Line) -> Rest<Line> {
+    match line.y_magnitude.max(line.x_magnitude) {
+        0 => Rest::Nothing {
+            escape: line.escape,
+        },
+        moves => Rest::Moves(Line { moves, ..line }),
     }
+}
+
+/// The command beat of a line lights nothing.
+fn begin_line(registers: &mut Registers, line: Rest<Line>) -> Beat {
+    leave_line(registers, line);
     Beat::quiet()
+}
+
+fn leave_line(registers: &mut Registers, rest: Rest<Line>) {
+    match rest {
+        Rest::Moves(line) => registers.motion = Motion::Line(line),
+        Rest::Nothing { escape } => end_command(registers, escape),
+    }
 }
 
 /// 01, vector: "After k of n moves the offset on an axis of magnitude m is the whole part of
@@ -340,41 +390,54 @@ fn line_step(line: &Line, minus: bool, magnitude: u16, distance: u16) -> Step {
     }
 }
 
-/// 01, vector, short vector, vector continue: one move of a line.
-pub fn line_move_beat(registers: &mut Registers, line: Line) -> Beat {
+/// Where the next move of a line leads.
+fn line_moved(registers: &Registers, line: &Line) -> Moved {
     let distance = distance(registers.scale);
-    let y = line_step(&line, line.y_minus, line.y_magnitude, distance);
-    let x = line_step(&line, line.x_minus, line.x_magnitude, distance);
-    let moved = Moved::of(registers, y, x);
-    if registers.mode == 3 && moved.violates() {
-        return last_still_beat(registers, line);
-    }
-    moved.make(registers);
-    after_line_move(registers, line);
-    let stop = edge_stop(registers, &moved);
-    Beat {
-        point: lit_point(registers, line.lit, moved.violates(), line.last_word),
-        stop,
-    }
+    let y = line_step(line, line.y_minus, line.y_magnitude, distance);
+    let x = line_step(line, line.x_minus, line.x_magnitude, distance);
+    Moved::of(registers, y, x)
 }
 
-/// 01, vector continue: "until a move would violate; that beat moves nothing, lights nothing, sets
-/// no flag and ends the command". Condition bit 9 has no say in it.
-fn last_still_beat(registers: &mut Registers, line: Line) -> Beat {
-    end_command(registers, line.escape);
-    Beat::quiet()
+/// 01, vector, short vector, vector continue: one move of a line, and what follows it.
+pub fn line_move_beat(registers: &mut Registers, line: Line) -> Beat {
+    if registers.mode == 3 {
+        return continued_move_beat(registers, line);
+    }
+    leave_line(registers, rest_of_line(line));
+    line_move(registers, line)
 }
 
-/// 01, vector: the nth move ends the command; vector continue: "k starting over at 0 after n".
-fn after_line_move(registers: &mut Registers, line: Line) {
+/// One move of a line: the beam, the edge and the point.
+pub fn line_move(registers: &mut Registers, line: Line) -> Beat {
+    let moved = line_moved(registers, &line);
+    make_move(registers, &moved, line.lit, line.last_word)
+}
+
+/// 01, vector: the nth move ends the command.
+pub fn rest_of_line(line: Line) -> Rest<Line> {
     let done = line.done + 1;
     if done < line.moves {
-        registers.motion = Motion::Line(Line { done, ..line });
-    } else if registers.mode == 3 {
-        registers.motion = Motion::Line(Line { done: 0, ..line });
+        Rest::Moves(Line { done, ..line })
     } else {
-        end_command(registers, line.escape);
+        Rest::Nothing {
+            escape: line.escape,
+        }
     }
+}
+
+/// 01, vector continue: "the same moves, k starting over at 0 after n, until a move would violate;
+/// that beat moves nothing, lights nothing, sets no flag and ends the command". Condition bit 9 has
+/// no say in it.
+fn continued_move_beat(registers: &mut Registers, line: Line) -> Beat {
+    if line_moved(registers, &line).violates() {
+        end_command(registers, line.escape);
+        return Beat::quiet();
+    }
+    registers.motion = Motion::Line(match rest_of_line(line) {
+        Rest::Moves(line) => line,
+        Rest::Nothing { .. } => Line { done: 0, ..line },
+    });
+    line_move(registers, line)
 }
 
 /// 01, graphplot: "one axis moves +s, the other's low 10 bits are set, after a violation too; the
@@ -813,7 +876,7 @@ mod tests {
     /// The last word that the motion remembers.
     fn remembered(bench: &Bench) -> Option<u16> {
         match bench.registers.motion {
-            Motion::Nothing => None,
+            Motion::Nothing | Motion::Character(_) => None,
             Motion::Line(line) => Some(line.last_word),
             Motion::Bytes(bytes) => Some(bytes.last_word),
         }

@@ -1,11 +1,13 @@
 //! A seeded generator of cases: plausible display files, wild ones and ones at the fence, external
-//! stops and held words, points and their words, words to list and listings to read, biased to the
-//! corners.
+//! stops and held words, points and their words, characters, words to list and listings to read,
+//! biased to the corners.
 
+mod characters;
 mod listings;
 mod points;
 mod stops;
 
+pub use characters::cases_of_every_character_word;
 pub use listings::{
     cases_of_all_memory, cases_of_every_word, DAMAGES, OTHER_MODE, OTHER_RANGE, OTHER_STATE, RIGHT,
 };
@@ -81,11 +83,13 @@ pub fn next_case(chance: &mut Chance) -> Case {
 pub fn next_case_and_change(chance: &mut Chance) -> (Case, Option<&'static str>) {
     let case = match chance.between(0, 99) {
         0..=19 => operation_case(chance),
-        20..=42 => Case::Run(structured_run(chance)),
-        43..=61 => Case::Run(wild_run(chance)),
-        62..=69 => Case::Run(fenced_run(chance)),
-        70..=81 => Case::Run(stops::stop_run(chance)),
-        82..=89 => Case::Run(points::point_run(chance)),
+        20..=33 => Case::Run(structured_run(chance)),
+        34..=45 => Case::Run(wild_run(chance)),
+        46..=52 => Case::Run(fenced_run(chance)),
+        53..=64 => Case::Run(stops::stop_run(chance)),
+        65..=71 => Case::Run(points::point_run(chance)),
+        72..=85 => Case::Run(characters::text_run(chance)),
+        86..=89 => Case::Run(characters::wild_text_run(chance)),
         90..=93 => Case::List(listings::listing_case(chance)),
         _ => {
             let (case, change) = listings::reading_case(chance);
@@ -249,6 +253,9 @@ fn registers_in_range(chance: &mut Chance) -> Registers {
         stop_request: chance.percent(12),
         word_is_held: false,
         held_word: 0,
+        upper_case: chance.coin(),
+        seven_bit_codes: chance.percent(35),
+        starting_address: chance.between(0, 63) as u8,
         motion: Motion::Nothing,
     };
     if chance.percent(15) {
@@ -261,9 +268,10 @@ fn registers_in_range(chance: &mut Chance) -> Registers {
         // The list lies among the words, so that a push may store over them.
         registers.pushdown_pointer = registers.display_address + chance.between(0, 5);
     }
-    match chance.between(0, 9) {
-        0..=2 => put_in_line(chance, &mut registers),
-        3..=4 => put_in_bytes(chance, &mut registers),
+    match chance.between(0, 19) {
+        0..=5 => put_in_line(chance, &mut registers),
+        6..=9 => put_in_bytes(chance, &mut registers),
+        10..=12 => characters::put_in_character(chance, &mut registers),
         _ => {}
     }
     registers
@@ -302,7 +310,7 @@ fn put_in_bytes(chance: &mut Chance, registers: &mut Registers) {
 
 /// One field put out of range, each in its turn, the rules of motion too.
 fn spoil(chance: &mut Chance, registers: &mut Registers) {
-    match chance.between(0, 21) {
+    match chance.between(0, 30) {
         0 => registers.display_address = beyond(chance, 32_768),
         1 => registers.pushdown_pointer = beyond(chance, 4_096),
         2 => registers.x = beyond(chance, 8_192),
@@ -323,7 +331,8 @@ fn spoil(chance: &mut Chance, registers: &mut Registers) {
             };
         }
         11..=16 => spoil_line(chance, registers),
-        _ => spoil_bytes(chance, registers),
+        17..=21 => spoil_bytes(chance, registers),
+        _ => characters::spoil_character(chance, registers),
     }
 }
 
@@ -397,12 +406,13 @@ fn operation_case(chance: &mut Chance) -> Case {
     let mut registers = registers_in_range(chance);
     let operation = if chance.percent(8) {
         match chance.between(0, 3) {
-            0 => chance.pick(&[0, 13, 19, 27, 28, 30, 31, 65_537, u32::MAX]),
+            0 => chance.pick(&[0, 13, 19, 27, 28, 29, 32, 65_537, u32::MAX]),
             _ => u32::from(chance.between(0, 40)),
         }
     } else {
         let known = [
-            1, 2, 3, 4, 4, 5, 6, 7, 7, 8, 9, 10, 11, 12, 20, 21, 22, 23, 24, 24, 25, 25, 26,
+            1, 2, 3, 4, 4, 5, 6, 7, 7, 8, 9, 10, 11, 12, 20, 21, 22, 23, 24, 24, 25, 25, 26, 30,
+            30, 31, 31,
         ];
         chance.pick(&known)
     };
@@ -419,7 +429,17 @@ fn operation_case(chance: &mut Chance) -> Case {
     if operation == 25 && chance.coin() {
         put_in_bytes(chance, &mut registers);
     }
-    if chance.percent(12) {
+    let character_percent = match operation {
+        25 | 30 | 31 => 60,
+        _ => 10,
+    };
+    if chance.percent(character_percent) {
+        characters::put_in_character(chance, &mut registers);
+    }
+    if operation == 31 && chance.percent(40) {
+        characters::put_in_mode_5(chance, &mut registers);
+    }
+    if chance.percent(16) {
         spoil(chance, &mut registers);
     }
     Case::Operation {
@@ -436,6 +456,7 @@ fn operand(chance: &mut Chance, operation: u32) -> u32 {
         2 | 3 => 4_095,
         8 => 11,
         9 => 1,
+        30 => return characters::operand_30(chance),
         _ => 0,
     };
     match chance.between(0, 19) {
@@ -1309,8 +1330,7 @@ mod tests {
             let asked = going_on(&case, &first, operate(first.registers, 6, 0).0);
             let budget = case.budget - first_part;
             let stop = outcome(&asked, first.memory.clone(), case.loan, budget);
-            let unusable =
-                first.registers.state == State::Data && matches!(first.registers.mode, 5 | 7);
+            let unusable = first.registers.state == State::Data && first.registers.mode == 7;
             let (all, mut left) = if stop.answer.ending == Ending::ExternalStop {
                 stops += 1;
                 assert!(stop.registers.word_is_held);

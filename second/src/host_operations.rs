@@ -1,9 +1,10 @@
-//! The host operations 1 to 12 and the reads 20 to 26, with the two status words.
+//! The host operations 1 to 12 and 30 and the reads 20 to 26 and 31, with the two status words and
+//! the layout of the character generator.
 
 use crate::control_words::{in_bank, Bank};
 use crate::refusals_and_endings::Ending;
-use crate::registers::{Motion, Registers, Side, State, POINTERS};
-use crate::words::{bit_mask, GREATEST_WORD};
+use crate::registers::{Motion, Registers, Side, Stage, State, POINTERS};
+use crate::words::{bit, bit_mask, field, GREATEST_WORD};
 
 /// 01, host operations. The registers, the ending (a refusal or 0) and the answered word.
 pub fn operate(registers: Registers, operation: u32, operand: u32) -> (Registers, Ending, u16) {
@@ -34,6 +35,8 @@ pub fn operate(registers: Registers, operation: u32, operand: u32) -> (Registers
         24 => word = read_status_1(&mut registers),
         25 => word = status_2(&registers),
         26 => word = registers.buttons,
+        30 => set_character_generator(&mut registers, operand),
+        31 => word = character_generator(&registers),
         // No other number passes the refusals.
         _ => {}
     }
@@ -48,22 +51,27 @@ fn refuse_operation(registers: &Registers, operation: u32, operand: u32) -> Opti
     match greatest_operand(operation) {
         None => Some(Ending::UnknownOperation),
         Some(greatest) if operand > greatest => Some(Ending::OperandOutOfRange),
+        Some(_) if operation == 30 && operand & !SETTABLE != 0 => Some(Ending::OperandOutOfRange),
         Some(_) => None,
     }
 }
 
 /// 01, host operations: the named ranges, and "Operand 0 where none is named". None for a number
-/// that is no operation.
-pub fn greatest_operand(operation: u32) -> Option<u32> {
+/// that is no operation. 02, No. 6: operation 30 takes no other bit than `SETTABLE`.
+fn greatest_operand(operation: u32) -> Option<u32> {
     match operation {
         1 => Some(32_767),
         2 | 3 => Some(u32::from(GREATEST_WORD)),
         8 => Some(11),
         9 => Some(1),
-        4..=7 | 10..=12 | 20..=26 => Some(0),
+        30 => Some(SETTABLE),
+        4..=7 | 10..=12 | 20..=26 | 31 => Some(0),
         _ => None,
     }
 }
+
+/// Manual 2.3.2.4: case in bit 3, code size in bit 4, SAR in bits 6 to 11.
+const SETTABLE: u32 = 0o0677;
 
 /// 01, operation 1: "sets the address to it; clears mode, the flags that stop, request, hold,
 /// motion; control state, running". Pen enable is not named and stays.
@@ -73,7 +81,8 @@ fn start(registers: &mut Registers, address: u16) {
     registers.running = true;
 }
 
-/// What start and clear have in common. 02, No. 4: "Start and clear drop the held word".
+/// What start and clear have in common. 02, No. 4: "Start and clear drop the held word". The
+/// character goes with the motion; case, code size and starting address are not named and stay.
 fn clear_for_a_beginning(registers: &mut Registers) {
     registers.mode = 0;
     registers.clear_stopping_flags();
@@ -195,11 +204,7 @@ fn display_interrupt(registers: &Registers) -> bool {
 
 /// Manual 2.3.1.6; 01: "The byte bit is 1 only in a right byte".
 fn status_2(registers: &Registers) -> u16 {
-    let right_byte = match registers.motion {
-        Motion::Bytes(bytes) => bytes.side == Side::Right,
-        Motion::Nothing | Motion::Line(_) => false,
-    };
-    (u16::from(right_byte) << 11)
+    (u16::from(in_right_byte(&registers.motion)) << 11)
         | (u16::from(registers.pen_enable) << 10)
         | (high_bit(registers.y) << 9)
         | (high_bit(registers.x) << 8)
@@ -208,15 +213,51 @@ fn status_2(registers: &Registers) -> u16 {
         | u16::from(registers.intensity)
 }
 
+/// Of an increment word, in a routine too. Manual 2.3.1.6: "It does not tell whether the right or
+/// left hand character is being executed".
+fn in_right_byte(motion: &Motion) -> bool {
+    let bytes = match motion {
+        Motion::Bytes(bytes) => bytes,
+        Motion::Character(character) => match &character.stage {
+            Stage::Bytes(bytes) => bytes,
+            Stage::TableWord | Stage::RoutineWord(_) | Stage::Line(_) => return false,
+        },
+        Motion::Nothing | Motion::Line(_) => return false,
+    };
+    bytes.side == Side::Right
+}
+
 /// The bit of a 13-bit coordinate that reads 21 and 22 leave out.
 fn high_bit(coordinate: u16) -> u16 {
     coordinate / POINTERS
 }
 
+/// 02, No. 6: "Operation 30 sets case, code size and starting address by the manual's RCG layout".
+fn set_character_generator(registers: &mut Registers, operand: u16) {
+    registers.upper_case = bit(operand, 3);
+    registers.seven_bit_codes = bit(operand, 4);
+    registers.starting_address = field(operand, 6, 11) as u8;
+}
+
+/// 02, No. 6: "31 reads that layout, byte bit 1 only in a right character". Manual 2.3.1.10: bit 0
+/// tells that "the display is in character mode and data state".
+fn character_generator(registers: &Registers) -> u16 {
+    let active = registers.state == State::Data && registers.mode == 5;
+    let right_character = match registers.motion {
+        Motion::Character(character) => character.side == Side::Right,
+        Motion::Nothing | Motion::Line(_) | Motion::Bytes(_) => false,
+    };
+    (u16::from(active) << 11)
+        | (u16::from(right_character) << 10)
+        | (u16::from(registers.upper_case) << 8)
+        | (u16::from(registers.seven_bit_codes) << 7)
+        | u16::from(registers.starting_address)
+}
+
 #[cfg(test)]
 mod tests {
     use super::*;
-    use crate::registers::{Bytes, Line};
+    use crate::registers::{Bytes, Character, Line, Routine};
 
     fn done(registers: Registers, operation: u32, operand: u32) -> Registers {
         let (after, ending, word) = operate(registers, operation, operand);
@@ -264,6 +305,9 @@ mod tests {
             stop_request: true,
             word_is_held: true,
             held_word: 0o2345,
+            upper_case: true,
+            seven_bit_codes: true,
+            starting_address: 0o52,
             motion: Motion::Line(Line {
                 y_minus: false,
                 x_minus: false,
@@ -286,13 +330,13 @@ mod tests {
         };
         assert_eq!(operate(bad, 99, 99), (bad, Ending::RegistersOutOfRange, 0));
         let good = busy();
-        for operation in [0, 13, 14, 15, 16, 17, 18, 19, 27, 28, 30, 31, 100, u32::MAX] {
+        for operation in [0, 13, 14, 15, 16, 17, 18, 19, 27, 28, 29, 32, 100, u32::MAX] {
             assert_eq!(
                 operate(good, operation, 99),
                 (good, Ending::UnknownOperation, 0)
             );
         }
-        for operation in (1..=12).chain(20..=26) {
+        for operation in (1..=12).chain(20..=26).chain(30..=31) {
             let greatest = greatest_operand(operation).unwrap();
             for operand in [greatest + 1, greatest + 65_536, u32::MAX] {
                 assert_eq!(
@@ -359,7 +403,7 @@ mod tests {
             for word in [0, 0o2345, 0o7777] {
                 let mut given = Registers { running, ..busy() };
                 given.hold(word);
-                for operation in (1..=12).chain(20..=26) {
+                for operation in (1..=12).chain(20..=26).chain(30..=31) {
                     let (after, ending, _) = operate(given, operation, 0);
                     assert_eq!(ending, Ending::Done);
                     let dropped = operation == 1 || operation == 5;
@@ -770,5 +814,194 @@ mod tests {
         assert_eq!(read(moving(Side::Left), 25), 0o0010);
         assert_eq!(read(moving(Side::Right), 25), 0o4010);
         assert_eq!(read(busy(), 25), 0o2725);
+    }
+
+    /// A display in mode 5 with a character of this side and stage.
+    fn writing(side: Side, stage: Stage) -> Registers {
+        Registers {
+            state: State::Data,
+            mode: 5,
+            motion: Motion::Character(Character {
+                word: 0o1105,
+                seven_bits: false,
+                side,
+                stage,
+            }),
+            ..Registers::fresh()
+        }
+    }
+
+    /// Each stage of a character, and whether it is in the right byte of a routine word.
+    fn stages() -> [(Stage, bool); 5] {
+        let bytes = |side| {
+            Stage::Bytes(Bytes {
+                word: 0o1010,
+                side,
+                moves_left: 1,
+                last_word: 0o6210,
+            })
+        };
+        let line = Stage::Line(Line {
+            y_minus: false,
+            x_minus: false,
+            y_magnitude: 0,
+            x_magnitude: 1,
+            moves: 1,
+            done: 0,
+            lit: true,
+            escape: true,
+            last_word: 0o6211,
+        });
+        let routine = Stage::RoutineWord(Routine {
+            short_vectors: true,
+            next: 0o6210,
+        });
+        [
+            (Stage::TableWord, false),
+            (routine, false),
+            (bytes(Side::Left), false),
+            (bytes(Side::Right), true),
+            (line, false),
+        ]
+    }
+
+    #[test]
+    fn the_character_generator_is_set_by_its_layout() {
+        for operand in (0..=0o7777).filter(|operand| operand & !0o0677 == 0) {
+            let expected = Registers {
+                upper_case: operand & 0o400 != 0,
+                seven_bit_codes: operand & 0o200 != 0,
+                starting_address: (operand & 0o77) as u8,
+                ..busy()
+            };
+            assert_eq!(done(busy(), 30, operand), expected);
+            assert_eq!(u32::from(read(expected, 31)), operand);
+        }
+        // In the middle of a character too, which goes on.
+        for (stage, _) in stages() {
+            let given = writing(Side::Left, stage);
+            let after = done(given, 30, 0o0677);
+            assert_eq!(after.motion, given.motion);
+            assert_eq!(after.starting_address, 0o77);
+        }
+    }
+
+    #[test]
+    fn another_bit_is_refusal_6() {
+        let other_bits = (0..=0o7777).filter(|operand| operand & !0o0677 != 0);
+        for operand in other_bits.chain([4_096, 0o10006, 65_536, 65_542, u32::MAX]) {
+            assert_eq!(
+                operate(busy(), 30, operand),
+                (busy(), Ending::OperandOutOfRange, 0)
+            );
+        }
+        for operand in [1, 6, 0o0677, 65_536, u32::MAX] {
+            assert_eq!(
+                operate(busy(), 31, operand),
+                (busy(), Ending::OperandOutOfRange, 0)
+            );
+        }
+        // What operation 31 reads in character mode is no operand for operation 30.
+        let word = read(writing(Side::Left, Stage::TableWord), 31);
+        assert_eq!(
+            operate(busy(), 30, u32::from(word)).1,
+            Ending::OperandOutOfRange
+        );
+    }
+
+    #[test]
+    fn every_bit_of_the_character_generator() {
+        let fresh = Registers::fresh();
+        assert_eq!(read(fresh, 31), 0);
+        let upper = Registers {
+            upper_case: true,
+            ..fresh
+        };
+        assert_eq!(read(upper, 31), 0o0400);
+        let seven = Registers {
+            seven_bit_codes: true,
+            ..fresh
+        };
+        assert_eq!(read(seven, 31), 0o0200);
+        let far = Registers {
+            starting_address: 0o77,
+            ..fresh
+        };
+        assert_eq!(read(far, 31), 0o0077);
+        // Bit 0 goes by state and mode, running or not, with a character or not.
+        for mode in 0..=7 {
+            for running in [false, true] {
+                let data = Registers {
+                    state: State::Data,
+                    mode,
+                    running,
+                    ..fresh
+                };
+                let active = if mode == 5 { 0o4000 } else { 0 };
+                assert_eq!(read(data, 31), active);
+                let control = Registers {
+                    state: State::Control,
+                    ..data
+                };
+                assert_eq!(read(control, 31), 0);
+                // Bit 1 goes by the side of the character, in any state and mode.
+                for (stage, _) in stages() {
+                    for (side, bit) in [(Side::Left, 0), (Side::Right, 0o2000)] {
+                        let motion = writing(side, stage).motion;
+                        assert_eq!(read(Registers { motion, ..data }, 31), active | bit);
+                        assert_eq!(read(Registers { motion, ..control }, 31), bit);
+                    }
+                }
+            }
+        }
+        // Neither goes by the side of a byte in increment mode.
+        let right_byte = Registers {
+            state: State::Data,
+            mode: 1,
+            motion: Motion::Bytes(Bytes {
+                word: 0o1010,
+                side: Side::Right,
+                moves_left: 1,
+                last_word: 0,
+            }),
+            ..fresh
+        };
+        assert_eq!(read(right_byte, 31), 0);
+    }
+
+    #[test]
+    fn status_2_shows_the_right_byte_of_a_routine_word() {
+        for (stage, right_byte) in stages() {
+            for side in [Side::Left, Side::Right] {
+                let word = read(writing(side, stage), 25);
+                let byte_bit = if right_byte { 0o4000 } else { 0 };
+                assert_eq!(word, 0o0050 | byte_bit, "{stage:?}");
+            }
+        }
+    }
+
+    #[test]
+    fn start_and_clear_drop_the_character_and_leave_the_generator() {
+        for (stage, _) in stages() {
+            let given = Registers {
+                upper_case: true,
+                seven_bit_codes: true,
+                starting_address: 0o77,
+                ..writing(Side::Right, stage)
+            };
+            for operation in (1..=12).chain(20..=26).chain([31]) {
+                let (after, ending, _) = operate(given, operation, 0);
+                assert_eq!(ending, Ending::Done);
+                let dropped = operation == 1 || operation == 5;
+                let left = if dropped {
+                    Motion::Nothing
+                } else {
+                    given.motion
+                };
+                assert_eq!(after.motion, left, "operation {operation}");
+                assert!(after.upper_case && after.seven_bit_codes);
+                assert_eq!(after.starting_address, 0o77);
+            }
+        }
     }
 }

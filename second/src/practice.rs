@@ -236,8 +236,37 @@ mod tests {
         assert_eq!(written(STOP), STOPPED);
         // Increment mode, one lit move to the left of x 0.
         assert_eq!(written("00200 1111\n00201 5400\n"), "ending 14 beats 3\n");
-        assert_eq!(written("00200 1151\n"), "ending 15 beats 1\n");
         assert_eq!(written("00200 1171\n"), "ending 15 beats 1\n");
+        // Character mode: words 0 call the routine at 0, a dark move to the right, twice each, to the
+        // right edge; a table word of the unused form.
+        assert_eq!(written("00200 1151\n"), "ending 14 beats 3585\n");
+        assert_eq!(written("00200 1151\n00000 7000\n"), "ending 15 beats 3\n");
+    }
+
+    /// The program of the manual's appendix 1, its table at 0 and its last word a stop.
+    #[test]
+    fn the_manuals_text() {
+        let words = [
+            (0o2000, &[0o1107, 0o1000, 0o5000, 0o1151][..]),
+            (0o2004, &[0o0001, 0o0203, 0o0104, 0o1400]),
+            (0o0000, &[0o4555, 0o0200, 0o6100, 0o2206, 0o6040]),
+            (0o0200, &[0o1672, 0o7251, 0o6057, 0o7674, 0o3762, 0o2701]),
+            (0o0206, &[0o3140]),
+        ];
+        let lines = words.iter().flat_map(|&(first, words)| {
+            let places = first..first + words.len();
+            places
+                .zip(words)
+                .map(|(address, word)| format!("{address:05o} {word:04o}\n"))
+        });
+        let output = written(&lines.collect::<String>());
+        let lines: Vec<&str> = output.lines().collect();
+        assert_eq!(lines.len(), 37);
+        assert_eq!(lines[0], "512 512 5 0 00200");
+        assert_eq!(lines[3], "512 518 5 0 00201");
+        // The second letter begins at the left, two scales of nine points below.
+        assert_eq!(lines[18], "0 494 5 0 00200");
+        assert_eq!(lines[36], "ending 12 beats 85");
     }
 
     #[test]

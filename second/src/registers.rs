@@ -44,12 +44,49 @@ pub struct Bytes {
     pub last_word: u16,
 }
 
-/// 01, registers: "Motion is nothing; a line ...; or bytes ...".
+/// 02, No. 6: "An unfinished character is motion". It is what is left of a character word.
+#[derive(Clone, Copy, Debug, PartialEq, Eq)]
+pub struct Character {
+    /// 12 bits; one character of seven bits, or two of six.
+    pub word: u16,
+    /// Whether the word is read in seven bits: "a new code size from the next word".
+    pub seven_bits: bool,
+    /// Which character of the word is being executed.
+    pub side: Side,
+    pub stage: Stage,
+}
+
+/// How far a character is. Manual, appendix 1: the character finds its table word, and a dispatch
+/// word finds a routine.
+#[derive(Clone, Copy, Debug, PartialEq, Eq)]
+pub enum Stage {
+    /// Its table word is to be fetched.
+    TableWord,
+    /// A word of its routine is to be fetched.
+    RoutineWord(Routine),
+    /// Moves of an increment word of its routine are left.
+    Bytes(Bytes),
+    /// Moves of a short vector of its routine are left.
+    Line(Line),
+}
+
+/// Manual, appendix 1: a routine is "drawn in either increment or short vector mode".
+#[derive(Clone, Copy, Debug, PartialEq, Eq)]
+pub struct Routine {
+    /// Short vectors, or else increment words.
+    pub short_vectors: bool,
+    /// 15 bits; the address of the word that comes next.
+    pub next: u16,
+}
+
+/// 01, registers: "Motion is nothing; a line ...; or bytes ...". 02, No. 6: "An unfinished character
+/// is motion".
 #[derive(Clone, Copy, Debug, PartialEq, Eq)]
 pub enum Motion {
     Nothing,
     Line(Line),
     Bytes(Bytes),
+    Character(Character),
 }
 
 /// 01, registers. The numbers are wider than the display's own, so that values out of range
@@ -90,6 +127,12 @@ pub struct Registers {
     pub word_is_held: bool,
     /// 12 bits; 0 where none is held.
     pub held_word: u16,
+    /// 02, No. 6: the case of six-bit codes. The manual's CASE.
+    pub upper_case: bool,
+    /// 02, No. 6: the code size, seven bits or else six. The manual's CHSZ.
+    pub seven_bit_codes: bool,
+    /// 6 bits; 02, No. 6: the starting address register. The manual's SAR.
+    pub starting_address: u8,
     pub motion: Motion,
 }
 
@@ -103,6 +146,8 @@ pub const COORDINATES: u16 = 8_192;
 pub const SECTOR: u16 = 1_024;
 /// 01, registers: "magnitudes up to 1,023".
 pub const GREATEST_MAGNITUDE: u16 = 1_023;
+/// Manual 2.3.1.10: "The SAR is a 6-bit register".
+pub const STARTING_ADDRESSES: u8 = 64;
 
 /// The display address that lies `count` words further on. 01, registers.
 pub fn address_after(address: u16, count: u16) -> u16 {
@@ -121,7 +166,7 @@ pub fn pointer_before(pointer: u16, count: u16) -> u16 {
 
 impl Registers {
     /// 01, registers: "Fresh is all zero: control state, not running, no motion". So no word is held
-    /// either.
+    /// either, and the character generator has case 0, six bits and starting address 0.
     pub fn fresh() -> Registers {
         Registers {
             display_address: 0,
@@ -151,6 +196,9 @@ impl Registers {
             stop_request: false,
             word_is_held: false,
             held_word: 0,
+            upper_case: false,
+            seven_bit_codes: false,
+            starting_address: 0,
             motion: Motion::Nothing,
         }
     }
@@ -168,6 +216,7 @@ impl Registers {
             && self.buttons <= GREATEST_WORD
             && self.conditions <= GREATEST_WORD
             && self.held_word_is_in_range()
+            && self.starting_address < STARTING_ADDRESSES
             && self.motion_is_in_range()
     }
 
@@ -178,7 +227,8 @@ impl Registers {
         self.held_word <= greatest
     }
 
-    /// 01, registers, the paragraph on motion.
+    /// 01, registers, the paragraph on motion. 02, No. 6: of a character only its own parts are
+    /// asked, so it is accepted in any state and mode.
     fn motion_is_in_range(&self) -> bool {
         match self.motion {
             Motion::Nothing => true,
@@ -186,8 +236,9 @@ impl Registers {
                 self.state == State::Data && matches!(self.mode, 2..=4) && line.is_in_range()
             }
             Motion::Bytes(bytes) => {
-                self.state == State::Data && self.mode == 1 && bytes.is_in_range()
+                self.state == State::Data && self.mode == 1 && bytes.are_in_range()
             }
+            Motion::Character(character) => character.is_in_range(),
         }
     }
 
@@ -248,13 +299,17 @@ impl Line {
 }
 
 impl Bytes {
-    /// 01, registers: "1 to 3 moves left and no more than that byte asks; right only if the left
-    /// byte does not escape". 02, No. 5 as for a line.
-    pub fn is_in_range(&self) -> bool {
+    /// 01, registers: "right only if the left byte does not escape", and the counts.
+    pub fn are_in_range(&self) -> bool {
+        (self.side == Side::Left || !byte_escapes(byte_of(self.word, Side::Left)))
+            && self.counts_are_in_range()
+    }
+
+    /// 01, registers: "1 to 3 moves left and no more than that byte asks". 02, No. 5 as for a line.
+    fn counts_are_in_range(&self) -> bool {
         self.word <= GREATEST_WORD
             && self.moves_left >= 1
             && self.moves_left <= byte_moves(self.byte())
-            && (self.side == Side::Left || !byte_escapes(byte_of(self.word, Side::Left)))
             && self.last_word < ADDRESSES
     }
 
@@ -264,7 +319,28 @@ impl Bytes {
     }
 }
 
-/// Manual 2.2.2: the first byte is bits 0 to 5, the second bits 6 to 11.
+impl Character {
+    /// 02, No. 6: "parts of an unfinished character, outside their widths or 01's limits on motion
+    /// counts are 4, and nothing else of a character is".
+    fn is_in_range(&self) -> bool {
+        self.word <= GREATEST_WORD && self.stage.is_in_range()
+    }
+}
+
+impl Stage {
+    /// 02, No. 6: widths and counts. So a right byte behind a left one that escapes is in range.
+    fn is_in_range(&self) -> bool {
+        match self {
+            Stage::TableWord => true,
+            Stage::RoutineWord(routine) => routine.next < ADDRESSES,
+            Stage::Bytes(bytes) => bytes.counts_are_in_range(),
+            Stage::Line(line) => line.is_in_range(),
+        }
+    }
+}
+
+/// Manual 2.2.2: the first byte is bits 0 to 5, the second bits 6 to 11. Manual 2.2.6: so are the
+/// characters of a word in six-bit format.
 pub fn byte_of(word: u16, side: Side) -> u16 {
     match side {
         Side::Left => field(word, 0, 5),
@@ -353,6 +429,7 @@ mod tests {
             conditions: 4_095,
             word_is_held: true,
             held_word: 4_095,
+            starting_address: 63,
             ..Registers::fresh()
         };
         assert!(good.are_in_range());
@@ -390,6 +467,11 @@ mod tests {
             ..good
         }
         .are_in_range());
+        assert!(!Registers {
+            starting_address: 64,
+            ..good
+        }
+        .are_in_range());
     }
 
     #[test]
@@ -419,7 +501,13 @@ mod tests {
         let line = Motion::Line(line());
         let bytes = Motion::Bytes(bytes());
         let still = (0..8).map(|mode| moving(Motion::Nothing, mode));
-        let states = [Registers::fresh(), moving(line, 2), moving(bytes, 1)];
+        let character = Motion::Character(character(Stage::TableWord));
+        let states = [
+            Registers::fresh(),
+            moving(line, 2),
+            moving(bytes, 1),
+            moving(character, 5),
+        ];
         for state in states.into_iter().chain(still) {
             for running in [false, true] {
                 for stop_request in [false, true] {
@@ -525,46 +613,160 @@ mod tests {
             moves_left: 0,
             ..bytes
         }
-        .is_in_range());
+        .are_in_range());
         assert!(!Bytes {
             moves_left: 4,
             ..bytes
         }
-        .is_in_range());
+        .are_in_range());
         assert!(!Bytes {
             word: 0o13612,
             ..bytes
         }
-        .is_in_range());
+        .are_in_range());
         let right = Bytes {
             side: Side::Right,
             moves_left: 1,
             ..bytes
         };
-        assert!(right.is_in_range());
+        assert!(right.are_in_range());
         assert!(!Bytes {
             moves_left: 2,
             ..right
         }
-        .is_in_range());
+        .are_in_range());
         // A left byte that escapes leaves no right one.
         assert!(!Bytes {
             word: 0o0612,
             ..right
         }
-        .is_in_range());
+        .are_in_range());
         assert!(Bytes {
             word: 0o0612,
             moves_left: 1,
             ..bytes
         }
-        .is_in_range());
+        .are_in_range());
         assert!(!Bytes {
             word: 0o0612,
             moves_left: 2,
             ..bytes
         }
-        .is_in_range());
+        .are_in_range());
+    }
+
+    /// The left character of 1105o, which is about to fetch its table word.
+    fn character(stage: Stage) -> Character {
+        Character {
+            word: 0o1105,
+            seven_bits: false,
+            side: Side::Left,
+            stage,
+        }
+    }
+
+    /// Whether the stage is in range, in each state and mode alike.
+    fn is_accepted(stage: Stage) -> bool {
+        let motion = Motion::Character(character(stage));
+        let data = (0..8).map(|mode| moving(motion, mode));
+        let control = (0..8).map(|mode| Registers {
+            state: State::Control,
+            ..moving(motion, mode)
+        });
+        let accepted: Vec<bool> = data
+            .chain(control)
+            .map(|registers| registers.are_in_range())
+            .collect();
+        assert!(accepted.iter().all(|&one| one == accepted[0]), "{stage:?}");
+        accepted[0]
+    }
+
+    #[test]
+    fn characters_keep_widths_and_counts() {
+        let routine = |next| {
+            Stage::RoutineWord(Routine {
+                short_vectors: false,
+                next,
+            })
+        };
+        assert!(is_accepted(Stage::TableWord));
+        assert!(is_accepted(routine(0o77777)));
+        assert!(!is_accepted(routine(0o100000)));
+        for (word, accepted) in [(0, true), (4_095, true), (4_096, false), (65_535, false)] {
+            let with_word = Character {
+                word,
+                ..character(Stage::TableWord)
+            };
+            let registers = moving(Motion::Character(with_word), 5);
+            assert_eq!(registers.are_in_range(), accepted, "{word}");
+        }
+        // A right character of seven bits.
+        let odd = Character {
+            seven_bits: true,
+            side: Side::Right,
+            ..character(Stage::TableWord)
+        };
+        assert!(moving(Motion::Character(odd), 5).are_in_range());
+    }
+
+    #[test]
+    fn the_bytes_of_a_routine_keep_their_counts() {
+        let bytes = bytes();
+        assert!(is_accepted(Stage::Bytes(bytes)));
+        let word = |word| Bytes { word, ..bytes };
+        let moves_left = |moves_left| Bytes {
+            moves_left,
+            ..bytes
+        };
+        let last_word = |last_word| Bytes { last_word, ..bytes };
+        assert!(is_accepted(Stage::Bytes(last_word(0o77777))));
+        for unfit in [
+            word(0o13612),
+            moves_left(0),
+            moves_left(4),
+            last_word(0o100000),
+        ] {
+            assert!(!is_accepted(Stage::Bytes(unfit)), "{unfit:?}");
+        }
+        // A right byte behind a left one that escapes, which increment mode refuses.
+        let behind_an_escape = Bytes {
+            word: 0o0030,
+            side: Side::Right,
+            ..bytes
+        };
+        assert!(is_accepted(Stage::Bytes(behind_an_escape)));
+        assert!(!moving(Motion::Bytes(behind_an_escape), 1).are_in_range());
+        let too_many = Bytes {
+            word: 0o0020,
+            ..behind_an_escape
+        };
+        assert!(!is_accepted(Stage::Bytes(too_many)));
+    }
+
+    #[test]
+    fn the_line_of_a_routine_keeps_the_rules_of_a_line() {
+        let line = line();
+        assert!(is_accepted(Stage::Line(line)));
+        assert!(is_accepted(Stage::Line(Line {
+            y_magnitude: 1_023,
+            moves: 1_023,
+            ..line
+        })));
+        for unfit in [
+            Line { done: 5, ..line },
+            Line { moves: 6, ..line },
+            Line {
+                y_magnitude: 1_024,
+                moves: 1_024,
+                ..line
+            },
+            Line {
+                last_word: 0o100000,
+                ..line
+            },
+        ] {
+            assert!(!is_accepted(Stage::Line(unfit)), "{unfit:?}");
+        }
     }
 
     /// Each motion that the rules allow, with this last word and a display address of any kind.

@@ -6,17 +6,18 @@ use std::io::{self, BufRead, Write};
 use crate::host_operations::operate;
 use crate::listing::{list_words, read_listing, ListingRefusal};
 use crate::refusals_and_endings::{Answer, Loan, LoanRange};
-use crate::registers::{Bytes, Line, Motion, Registers, Side, State};
+use crate::registers::{Bytes, Character, Line, Motion, Registers, Routine, Side, Stage, State};
 use crate::turn::run;
 
 // The widths, which decide between `error N` (it does not fit) and a refusal (it fits but is out
 // of range). The format leaves them to the call's types; these are the types of this library:
 //   16 bits: addr ptr x y buttons cond heldword, the line's magnitudes, n and k, the bytes' word and
-//            moves left, from, FLO FHI LLO LHI, LO HI, DEFAULT, the pairs' addresses and words;
-//    8 bits: mode scale intensity, STATE and MODE of a listing;
+//            moves left, from, the character's word and next, FLO FHI LLO LHI, LO HI, DEFAULT, the
+//            pairs' addresses and words;
+//    8 bits: mode scale intensity sar, STATE and MODE of a listing;
 //   32 bits: OP, OPERAND, BUDGET;
-//    1 bit:  state, every flag, held, signs, lit, escape, side;
-//   MOTION is 0, 1 or 2; MEMLEN is at most 32,769; ROOM at most 65,536, or 1,500,000 bytes of text;
+//    1 bit:  state, every flag, held, case, size, signs, lit, escape, side, kind;
+//   MOTION is 0, 1, 2 or 3, and 3 has STAGE 0, 1, 2 or 3; MEMLEN is at most 32,769; ROOM at most 65,536, or 1,500,000 bytes of text;
 //   a pair's address is below MEMLEN; COUNT is the number of pairs that follow.
 // A number is one or more of the digits 0 to 9. Leading zeros are accepted, as many as there are.
 const BIT: u64 = 1;
@@ -205,7 +206,7 @@ impl<'a> Numbers<'a> {
         }
     }
 
-    /// The format's registers: 27 numbers in this order, then the motion.
+    /// The format's registers: 30 numbers in this order, then the motion.
     fn registers(&mut self) -> Option<Registers> {
         Some(Registers {
             display_address: self.sixteen_bits()?,
@@ -239,35 +240,72 @@ impl<'a> Numbers<'a> {
             stop_request: self.flag()?,
             word_is_held: self.flag()?,
             held_word: self.sixteen_bits()?,
+            upper_case: self.flag()?,
+            seven_bit_codes: self.flag()?,
+            starting_address: self.eight_bits()?,
             motion: self.motion()?,
         })
     }
 
-    /// The format calls the address of a motion's last word `from`.
     fn motion(&mut self) -> Option<Motion> {
-        match self.next(2)? {
+        match self.next(3)? {
             0 => Some(Motion::Nothing),
-            1 => Some(Motion::Line(Line {
-                y_minus: self.flag()?,
-                x_minus: self.flag()?,
-                y_magnitude: self.sixteen_bits()?,
-                x_magnitude: self.sixteen_bits()?,
-                moves: self.sixteen_bits()?,
-                done: self.sixteen_bits()?,
-                lit: self.flag()?,
-                escape: self.flag()?,
-                last_word: self.sixteen_bits()?,
+            1 => Some(Motion::Line(self.line()?)),
+            2 => Some(Motion::Bytes(self.bytes()?)),
+            _ => Some(Motion::Character(self.character()?)),
+        }
+    }
+
+    /// The format calls the address of a motion's last word `from`.
+    fn line(&mut self) -> Option<Line> {
+        Some(Line {
+            y_minus: self.flag()?,
+            x_minus: self.flag()?,
+            y_magnitude: self.sixteen_bits()?,
+            x_magnitude: self.sixteen_bits()?,
+            moves: self.sixteen_bits()?,
+            done: self.sixteen_bits()?,
+            lit: self.flag()?,
+            escape: self.flag()?,
+            last_word: self.sixteen_bits()?,
+        })
+    }
+
+    fn bytes(&mut self) -> Option<Bytes> {
+        Some(Bytes {
+            word: self.sixteen_bits()?,
+            side: self.side()?,
+            moves_left: self.sixteen_bits()?,
+            last_word: self.sixteen_bits()?,
+        })
+    }
+
+    fn side(&mut self) -> Option<Side> {
+        Some(if self.flag()? {
+            Side::Right
+        } else {
+            Side::Left
+        })
+    }
+
+    fn character(&mut self) -> Option<Character> {
+        Some(Character {
+            word: self.sixteen_bits()?,
+            seven_bits: self.flag()?,
+            side: self.side()?,
+            stage: self.stage()?,
+        })
+    }
+
+    fn stage(&mut self) -> Option<Stage> {
+        match self.next(3)? {
+            0 => Some(Stage::TableWord),
+            1 => Some(Stage::RoutineWord(Routine {
+                short_vectors: self.flag()?,
+                next: self.sixteen_bits()?,
             })),
-            _ => Some(Motion::Bytes(Bytes {
-                word: self.sixteen_bits()?,
-                side: if self.flag()? {
-                    Side::Right
-                } else {
-                    Side::Left
-                },
-                moves_left: self.sixteen_bits()?,
-                last_word: self.sixteen_bits()?,
-            })),
+            2 => Some(Stage::Bytes(self.bytes()?)),
+            _ => Some(Stage::Line(self.line()?)),
         }
     }
 
@@ -574,6 +612,9 @@ fn write_registers(line: &mut String, registers: &Registers) {
     number(line, registers.stop_request);
     number(line, registers.word_is_held);
     number(line, registers.held_word);
+    number(line, registers.upper_case);
+    number(line, registers.seven_bit_codes);
+    number(line, registers.starting_address);
     write_motion(line, &registers.motion);
 }
 
@@ -582,22 +623,56 @@ fn write_motion(line: &mut String, motion: &Motion) {
         Motion::Nothing => number(line, 0u32),
         Motion::Line(motion) => {
             number(line, 1u32);
-            number(line, motion.y_minus);
-            number(line, motion.x_minus);
-            number(line, motion.y_magnitude);
-            number(line, motion.x_magnitude);
-            number(line, motion.moves);
-            number(line, motion.done);
-            number(line, motion.lit);
-            number(line, motion.escape);
-            number(line, motion.last_word);
+            write_line(line, motion);
         }
         Motion::Bytes(motion) => {
             number(line, 2u32);
+            write_bytes(line, motion);
+        }
+        Motion::Character(motion) => {
+            number(line, 3u32);
             number(line, motion.word);
+            number(line, motion.seven_bits);
             number(line, motion.side == Side::Right);
-            number(line, motion.moves_left);
-            number(line, motion.last_word);
+            write_stage(line, &motion.stage);
+        }
+    }
+}
+
+fn write_line(line: &mut String, motion: &Line) {
+    number(line, motion.y_minus);
+    number(line, motion.x_minus);
+    number(line, motion.y_magnitude);
+    number(line, motion.x_magnitude);
+    number(line, motion.moves);
+    number(line, motion.done);
+    number(line, motion.lit);
+    number(line, motion.escape);
+    number(line, motion.last_word);
+}
+
+fn write_bytes(line: &mut String, motion: &Bytes) {
+    number(line, motion.word);
+    number(line, motion.side == Side::Right);
+    number(line, motion.moves_left);
+    number(line, motion.last_word);
+}
+
+fn write_stage(line: &mut String, stage: &Stage) {
+    match stage {
+        Stage::TableWord => number(line, 0u32),
+        Stage::RoutineWord(routine) => {
+            number(line, 1u32);
+            number(line, routine.short_vectors);
+            number(line, routine.next);
+        }
+        Stage::Bytes(motion) => {
+            number(line, 2u32);
+            write_bytes(line, motion);
+        }
+        Stage::Line(motion) => {
+            number(line, 3u32);
+            write_line(line, motion);
         }
     }
 }
@@ -625,7 +700,7 @@ pub fn replay(mut input: impl BufRead, mut output: impl Write) -> io::Result<()>
 mod tests {
     use super::*;
 
-    const FRESH: &str = "0 0 0 0 0 0 0 0 0 0 0 0 0 0 0 0 0 0 0 0 0 0 0 0 0 0 0 0";
+    const FRESH: &str = "0 0 0 0 0 0 0 0 0 0 0 0 0 0 0 0 0 0 0 0 0 0 0 0 0 0 0 0 0 0 0";
 
     fn replayed(input: &str) -> String {
         let mut output = Vec::new();
@@ -636,13 +711,13 @@ mod tests {
     #[test]
     fn the_formats_own_examples() {
         assert_eq!(
-            replayed("op 0 0 0 0 0 0 0 0 0 0 0 0 0 0 0 0 0 0 0 0 0 0 0 0 0 0 0 0 1 128\n"),
-            "op 0 0 128 0 0 0 0 0 0 0 0 0 0 0 0 0 0 0 0 0 0 0 0 0 0 1 0 0 0 0\n"
+            replayed("op 0 0 0 0 0 0 0 0 0 0 0 0 0 0 0 0 0 0 0 0 0 0 0 0 0 0 0 0 0 0 0 1 128\n"),
+            "op 0 0 128 0 0 0 0 0 0 0 0 0 0 0 0 0 0 0 0 0 0 0 0 0 0 1 0 0 0 0 0 0 0\n"
         );
         // A word where none is held.
         assert_eq!(
-            replayed("op 0 0 0 0 0 0 0 0 0 0 0 0 0 0 0 0 0 0 0 0 0 0 0 0 0 0 5 0 20 0\n"),
-            "op 4 0 0 0 0 0 0 0 0 0 0 0 0 0 0 0 0 0 0 0 0 0 0 0 0 0 0 0 5 0\n"
+            replayed("op 0 0 0 0 0 0 0 0 0 0 0 0 0 0 0 0 0 0 0 0 0 0 0 0 0 0 5 0 0 0 0 20 0\n"),
+            "op 4 0 0 0 0 0 0 0 0 0 0 0 0 0 0 0 0 0 0 0 0 0 0 0 0 0 0 0 5 0 0 0 0\n"
         );
     }
 
@@ -654,18 +729,18 @@ mod tests {
     #[test]
     fn a_run_answers_points_and_changed_words() {
         // The practice example, and a push jump before it: words at 128 to 131 and 64, 65.
-        let case = "run 64 4095 0 0 0 0 0 0 0 0 0 0 0 0 0 0 0 0 0 0 0 0 0 1 0 0 0 0 \
+        let case = "run 64 4095 0 0 0 0 0 0 0 0 0 0 0 0 0 0 0 0 0 0 0 0 0 1 0 0 0 0 0 0 0 \
                     100 0 32768 0 32768 8 32768 0 6 64 1032 65 128 128 577 129 2148 130 2248 131 768\n";
         assert_eq!(
             replayed(case),
-            "run 12 4 1 0 132 1 200 100 0 0 0 0 0 0 0 0 0 0 0 0 1 0 0 0 0 0 0 0 0 0 0 0 P 2181140680 M 0 66\n"
+            "run 12 4 1 0 132 1 200 100 0 0 0 0 0 0 0 0 0 0 0 0 1 0 0 0 0 0 0 0 0 0 0 0 0 0 0 P 2181140680 M 0 66\n"
         );
     }
 
     #[test]
     fn a_run_that_ends_at_the_fence_answers_the_address() {
         // The same push jump at 64, and the registers that it leaves as they are.
-        let registers = "64 4095 0 0 0 0 0 0 0 0 0 0 0 0 0 0 0 0 0 0 0 0 0 1 0 0 0 0";
+        let registers = "64 4095 0 0 0 0 0 0 0 0 0 0 0 0 0 0 0 0 0 0 0 0 0 1 0 0 0 0 0 0 0";
         for (loan, answer) in [
             ("0 0 0 0", "run 16 0 0 64"),
             ("0 65 0 0", "run 16 0 0 65"),
@@ -685,7 +760,7 @@ mod tests {
     /// heldword.
     fn stopping(flag: u32, running: u32, request: u32, held: &str) -> String {
         let before_flag = "64 0 0 0 0 0 0 0 0 0 0 0 0 0 0 0 0";
-        format!("{before_flag} {flag} 0 0 0 0 0 {running} {request} {held} 0")
+        format!("{before_flag} {flag} 0 0 0 0 0 {running} {request} {held} 0 0 0 0")
     }
 
     #[test]
@@ -714,7 +789,7 @@ mod tests {
         );
         assert_eq!(
             answer(&resumed, "9 0 0 0 0 8 32768 0 0"),
-            "run 12 1 0 0 65 0 0 0 0 0 0 0 0 0 0 0 0 0 0 0 1 0 0 0 0 0 0 0 0 0 0 0 P M\n"
+            "run 12 1 0 0 65 0 0 0 0 0 0 0 0 0 0 0 0 0 0 0 1 0 0 0 0 0 0 0 0 0 0 0 0 0 0 P M\n"
         );
     }
 
@@ -747,10 +822,12 @@ mod tests {
     }
 
     /// Running registers in data state, all else 0 but for the place (the display address, x and
-    /// y), the mode and what follows request: held, heldword and the motion.
-    fn drawing(place: [u32; 3], mode: u32, rest: &str) -> String {
+    /// y), the mode, held and heldword, and the motion.
+    fn drawing(place: [u32; 3], mode: u32, held: &str, motion: &str) -> String {
         let [address, x, y] = place;
-        format!("{address} 0 {x} {y} 1 {mode} 0 0 0 0 0 0 0 0 0 0 0 0 0 0 0 0 0 1 0 {rest}")
+        format!(
+            "{address} 0 {x} {y} 1 {mode} 0 0 0 0 0 0 0 0 0 0 0 0 0 0 0 0 0 1 0 {held} 0 0 0 {motion}"
+        )
     }
 
     #[test]
@@ -759,56 +836,56 @@ mod tests {
         for (given, rest, numbers, left, points) in [
             // A point at 128, 129: 200 + 1,024 times 100 + 2^24 times 129.
             (
-                drawing([128, 0, 0], 0, "0 0 0"),
+                drawing([128, 0, 0], 0, "0 0", "0"),
                 format!("1 {lent} 2 128 2148 129 2248"),
                 "11 1 1 0",
-                "130 0 200 100 0 0 0 0 0 0 0 0 0 0 0 0 0 0 0 0 0 0 0 1 0 0 0 0".into(),
+                "130 0 200 100 0 0 0 0 0 0 0 0 0 0 0 0 0 0 0 0 0 0 0 1 0 0 0 0 0 0 0".into(),
                 " 2164363464",
             ),
             // The same at 77777o, whose last word is word 0.
             (
-                drawing([32_767, 0, 0], 0, "0 0 0"),
+                drawing([32_767, 0, 0], 0, "0 0", "0"),
                 format!("1 {lent} 2 32767 2148 0 2248"),
                 "11 1 1 0",
-                "1 0 200 100 0 0 0 0 0 0 0 0 0 0 0 0 0 0 0 0 0 0 0 1 0 0 0 0".into(),
+                "1 0 200 100 0 0 0 0 0 0 0 0 0 0 0 0 0 0 0 0 0 0 0 1 0 0 0 0 0 0 0".into(),
                 " 102600",
             ),
             // A vector there, before its first move and after it.
             (
-                drawing([32_767, 0, 0], 2, "0 0 0"),
+                drawing([32_767, 0, 0], 2, "0 0", "0"),
                 format!("1 {lent} 2 32767 2049 0 2050"),
                 "11 1 0 0",
-                drawing([1, 0, 0], 2, "0 0 1 0 0 1 2 2 0 1 1 0"),
+                drawing([1, 0, 0], 2, "0 0", "1 0 0 1 2 2 0 1 1 0"),
                 "",
             ),
             (
-                drawing([5, 0, 0], 2, "0 0 1 0 0 1 2 2 0 1 1 32766"),
+                drawing([5, 0, 0], 2, "0 0", "1 0 0 1 2 2 0 1 1 32766"),
                 format!("1 {lent} 0"),
                 "11 1 1 0",
-                drawing([5, 1, 1], 2, "0 0 1 0 0 1 2 2 1 1 1 32766"),
+                drawing([5, 1, 1], 2, "0 0", "1 0 0 1 2 2 1 1 1 32766"),
                 " 549722260481",
             ),
             // Both bytes of an increment word, and the motion between them.
             (
-                drawing([128, 0, 0], 1, "0 0 0"),
+                drawing([128, 0, 0], 1, "0 0", "0"),
                 format!("3 {lent} 1 128 2601"),
                 "11 3 2 0",
-                drawing([129, 2, 1], 1, "0 0 0"),
+                drawing([129, 2, 1], 1, "0 0", "0"),
                 " 2147483649 2147484674",
             ),
             (
-                drawing([128, 0, 0], 1, "0 0 0"),
+                drawing([128, 0, 0], 1, "0 0", "0"),
                 format!("2 {lent} 1 128 2601"),
                 "11 2 1 0",
-                drawing([129, 1, 0], 1, "0 0 2 2601 1 1 128"),
+                drawing([129, 1, 0], 1, "0 0", "2 2601 1 1 128"),
                 " 2147483649",
             ),
             // A held graphplot word, whatever lies at its address by now.
             (
-                drawing([128, 0, 0], 6, "1 7 0"),
+                drawing([128, 0, 0], 6, "1 7", "0"),
                 "1 0 0 0 0 8 32768 0 1 128 5".into(),
                 "11 1 1 0",
-                drawing([129, 1, 7], 6, "0 0 0"),
+                drawing([129, 1, 7], 6, "0 0", "0"),
                 " 2147490817",
             ),
         ] {
@@ -822,9 +899,9 @@ mod tests {
     #[test]
     fn the_greatest_entry_is_2_to_the_39_less_1() {
         // Intensity 7 and blink, one move right to the far corner, word 77777o.
-        let given = "5 0 1022 1023 1 4 0 7 0 0 0 1 0 0 0 0 0 0 0 0 0 0 0 1 0 0 0 \
+        let given = "5 0 1022 1023 1 4 0 7 0 0 0 1 0 0 0 0 0 0 0 0 0 0 0 1 0 0 0 0 0 0 \
                      1 0 0 0 1 1 0 1 0 32767";
-        let left = "5 0 1023 1023 1 4 0 7 0 0 0 1 0 0 0 0 0 0 0 0 0 0 0 1 0 0 0 0";
+        let left = "5 0 1023 1023 1 4 0 7 0 0 0 1 0 0 0 0 0 0 0 0 0 0 0 1 0 0 0 0 0 0 0";
         assert_eq!(
             replayed(&format!("run {given} 1 0 0 0 0 1 32768 0 0\n")),
             format!("run 11 1 1 0 {left} P 549755813887 M\n")
@@ -835,7 +912,7 @@ mod tests {
     fn a_motion_with_an_unfit_last_word_is_refused_in_its_turn() {
         for last_word in [32_768, 32_769, 65_535] {
             for (mode, motion) in [(2, "1 0 0 0 1 1 0 1 1"), (1, "2 512 0 1")] {
-                let given = drawing([128, 0, 0], mode, &format!("0 0 {motion} {last_word}"));
+                let given = drawing([128, 0, 0], mode, "0 0", &format!("{motion} {last_word}"));
                 assert_eq!(
                     replayed(&format!("op {given} 99 99\n")),
                     format!("op 4 0 {given}\n")
@@ -853,6 +930,105 @@ mod tests {
                 }
             }
         }
+    }
+
+    /// Registers in data state and mode 5 at 192, the beam at (100,200), the table at 06000o, but for
+    /// running and the motion.
+    fn writing(running: u32, motion: &str) -> String {
+        let before = "192 0 100 200 1 5 0 3 0 0 0 0 0 0 0 0 0 0 0 0 0 0 0";
+        format!("{before} {running} 0 0 0 0 0 6 {motion}")
+    }
+
+    #[test]
+    fn characters_are_read_and_written_in_every_stage() {
+        for motion in [
+            "3 4095 1 1 0",
+            "3 0 0 0 1 0 0",
+            "3 581 0 1 1 1 32767",
+            "3 581 1 0 2 2592 0 1 3208",
+            "3 581 0 0 2 24 1 3 32767",
+            "3 581 0 1 3 1 0 1023 16 1023 1022 1 0 4",
+        ] {
+            let given = writing(1, motion);
+            assert_eq!(
+                replayed(&format!("op {given} 20 0\n")),
+                format!("op 0 0 {given}\n")
+            );
+        }
+    }
+
+    #[test]
+    fn characters_out_of_range_are_refused_in_their_turn() {
+        for motion in [
+            "3 4096 0 0 0",
+            "3 65535 1 1 0",
+            "3 581 0 0 1 0 32768",
+            "3 581 0 0 1 1 65535",
+            "3 581 0 0 2 4096 0 1 4",
+            "3 581 0 0 2 2592 0 0 4",
+            "3 581 0 0 2 2592 0 2 4",
+            "3 581 0 0 2 2592 0 1 32768",
+            "3 581 0 0 3 0 0 1024 0 1024 0 1 0 4",
+            "3 581 0 0 3 0 0 0 1024 1024 0 1 0 4",
+            "3 581 0 0 3 0 0 1 2 3 0 1 0 4",
+            "3 581 0 0 3 0 0 1 2 1 0 1 0 4",
+            "3 581 0 0 3 0 0 1 2 2 2 1 0 4",
+            "3 581 0 0 3 0 0 0 0 0 0 1 0 4",
+            "3 581 0 0 3 0 0 1 2 2 1 1 0 32768",
+        ] {
+            let given = writing(1, motion);
+            for operation in ["20 0", "30 448", "31 1", "99 99"] {
+                assert_eq!(
+                    replayed(&format!("op {given} {operation}\n")),
+                    format!("op 4 0 {given}\n")
+                );
+            }
+            for (rest, refusal) in [
+                ("65536 1 0 0 0 8 32767 0 0", 1),
+                ("65536 1 0 0 0 8 32768 0 0", 2),
+                ("0 1 0 0 0 8 32768 0 0", 3),
+                ("0 0 0 0 0 8 32768 0 0", 4),
+            ] {
+                assert_eq!(
+                    replayed(&format!("run {given} {rest}\n")),
+                    format!("run {refusal} 0 0 0 {given} P M\n")
+                );
+            }
+        }
+        for (sar, answer) in [(63, "op 0 0"), (64, "op 4 0"), (255, "op 4 0")] {
+            let given = with_number(29, &sar.to_string()).replace(" 10 0", "");
+            let given = given.strip_prefix("op ").unwrap();
+            assert_eq!(
+                replayed(&format!("op {given} 20 0\n")),
+                format!("{answer} {given}\n")
+            );
+        }
+    }
+
+    #[test]
+    fn a_character_is_written_and_answered() {
+        // The word 0101o: its table word 0210o leads to 06210o, where 5040o is two moves right.
+        let memory = "32768 0 3 192 65 3073 136 3208 2592";
+        let points = "53824659557 53824659558 53824659559 53824659560";
+        let after = "193 0 104 200 1 5 0 3 0 0 0 0 0 0 0 0 0 0 0 0 0 0 0 1 0 0 0 0 0 6 0";
+        assert_eq!(
+            replayed(&format!(
+                "run {} 9 0 32768 0 0 8 {memory}\n",
+                writing(1, "0")
+            )),
+            format!("run 11 9 4 0 {after} P {points} M\n")
+        );
+        // The table word and the routine word are not lent.
+        let character = writing(1, "3 65 0 1 0").replacen("192", "193", 1);
+        assert_eq!(
+            replayed(&format!("run {character} 9 0 3073 3074 3075 8 {memory}\n")),
+            format!("run 16 0 0 3073 {character} P M\n")
+        );
+        let routine = writing(1, "3 65 0 1 1 0 3208").replacen("192", "193", 1);
+        assert_eq!(
+            replayed(&format!("run {character} 9 0 3208 0 0 8 {memory}\n")),
+            format!("run 16 1 0 3208 {routine} P M\n")
+        );
     }
 
     #[test]
@@ -917,7 +1093,7 @@ mod tests {
         }
     }
 
-    /// The fresh registers with one of the 28 texts replaced.
+    /// The fresh registers with one of the 31 texts replaced.
     fn with_number(place: usize, text: &str) -> String {
         let mut numbers: Vec<&str> = FRESH.split(' ').collect();
         numbers[place] = text;
@@ -927,8 +1103,8 @@ mod tests {
     #[test]
     fn each_register_has_its_width() {
         let sixteen = [0, 1, 2, 3, 13, 22, 26];
-        let eight = [5, 6, 7];
-        for place in 0..27 {
+        let eight = [5, 6, 7, 29];
+        for place in 0..30 {
             let greatest = if sixteen.contains(&place) {
                 65_535
             } else if eight.contains(&place) {
@@ -947,6 +1123,7 @@ mod tests {
         }
         for (motion, is_case) in [
             ("3", false),
+            ("4", false),
             ("0 0", false),
             ("1 0 0 0 0 0 0 0 0", false),
             ("1 0 0 0 0 0 0 0 0 0 0", false),
@@ -967,9 +1144,40 @@ mod tests {
             ("2 65535 1 255 65536", false),
             ("2 0 0 0", false),
             ("2 0 0 0 0 0", false),
+            ("3 65535 1 1 0", true),
+            ("3 65536 1 1 0", false),
+            ("3 65535 2 1 0", false),
+            ("3 65535 1 2 0", false),
+            ("3 65535 1 1 4", false),
+            ("3 0 0 0", false),
+            ("3 0 0 0 0 0", false),
+            ("3 65535 1 1 1 1 65535", true),
+            ("3 0 0 0 1 2 65535", false),
+            ("3 0 0 0 1 1 65536", false),
+            ("3 0 0 0 1 0", false),
+            ("3 0 0 0 1 0 0 0", false),
+            ("3 0 0 0 2 65535 1 65535 65535", true),
+            ("3 0 0 0 2 65536 1 65535 65535", false),
+            ("3 0 0 0 2 65535 2 65535 65535", false),
+            ("3 0 0 0 2 65535 1 65536 65535", false),
+            ("3 0 0 0 2 65535 1 65535 65536", false),
+            ("3 0 0 0 2 0 0 0", false),
+            ("3 0 0 0 2 0 0 0 0 0", false),
+            ("3 0 0 0 3 1 1 65535 65535 65535 65535 1 1 65535", true),
+            ("3 0 0 0 3 2 1 65535 65535 65535 65535 1 1 65535", false),
+            ("3 0 0 0 3 1 2 65535 65535 65535 65535 1 1 65535", false),
+            ("3 0 0 0 3 1 1 65536 65535 65535 65535 1 1 65535", false),
+            ("3 0 0 0 3 1 1 65535 65536 65535 65535 1 1 65535", false),
+            ("3 0 0 0 3 1 1 65535 65535 65536 65535 1 1 65535", false),
+            ("3 0 0 0 3 1 1 65535 65535 65535 65536 1 1 65535", false),
+            ("3 0 0 0 3 1 1 65535 65535 65535 65535 2 1 65535", false),
+            ("3 0 0 0 3 1 1 65535 65535 65535 65535 1 2 65535", false),
+            ("3 0 0 0 3 1 1 65535 65535 65535 65535 1 1 65536", false),
+            ("3 0 0 0 3 0 0 0 0 0 0 0 0", false),
+            ("3 0 0 0 3 0 0 0 0 0 0 0 0 0 0", false),
         ] {
             assert_eq!(
-                read_case(&with_number(27, motion)).is_some(),
+                read_case(&with_number(30, motion)).is_some(),
                 is_case,
                 "{motion}"
             );

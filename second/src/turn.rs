@@ -1,5 +1,6 @@
 //! One turn of a run: the tests before each beat, in their order, and the run that repeats them.
 
+use crate::characters::character_beat;
 use crate::control_words::control_command_beat;
 use crate::data_words::{byte_move_beat, data_command_beat, line_move_beat};
 use crate::refusals_and_endings::{refuse_run, Answer, Ending, LentMemory, Loan};
@@ -9,7 +10,8 @@ use crate::registers::{Motion, Registers, State};
 #[derive(Clone, Copy, Debug, PartialEq, Eq)]
 pub struct Beat {
     pub point: Option<u64>,
-    /// 01: "a beat that stops the display ends the run with 12 or 14".
+    /// 01: "a beat that stops the display ends the run with 12 or 14". 02, No. 6: or with 15, at a
+    /// table word of the unused form.
     pub stop: Option<Ending>,
 }
 
@@ -78,6 +80,7 @@ fn turn(registers: &mut Registers, memory: &mut LentMemory, room: bool) -> Resul
         Motion::Nothing => command_beat(&mut after, memory)?,
         Motion::Line(line) => line_move_beat(&mut after, line),
         Motion::Bytes(bytes) => byte_move_beat(&mut after, bytes),
+        Motion::Character(character) => character_beat(&mut after, memory, character)?,
     };
     // 01, 5: "the beat would light a point and the list is full: 18". The only beat that writes
     // memory is a push, which lights nothing, so no word was stored when this test fails.
@@ -90,8 +93,9 @@ fn turn(registers: &mut Registers, memory: &mut LentMemory, room: bool) -> Resul
 
 /// 01, 2: "no motion and a stop request: request off, external flag on, running off, 13, no beat".
 /// 02, No. 4: "if it can't be made, the run ends with 16 or 17, the stop is not made, and the
-/// request stays", so the fetch comes before any change. It stands here, before the unusable modes:
-/// "In mode 5 or 7 the word is held too".
+/// request stays", so the fetch comes before any change. It stands here, before the unusable mode:
+/// "In mode 5 or 7 the word is held too". 02, No. 6: "A stop request waits until the character word
+/// is finished", for until then there is motion.
 fn external_stop(registers: &mut Registers, memory: &LentMemory) -> Result<(), Ending> {
     if registers.motion == Motion::Nothing && registers.stop_request {
         hold_the_next_word(registers, memory)?;
@@ -113,11 +117,10 @@ fn hold_the_next_word(registers: &mut Registers, memory: &LentMemory) -> Result<
     Ok(())
 }
 
-/// 01, 3: "no motion, data state, mode 5 or 7: running off, 15, no beat, no flag".
+/// 01, 3: "no motion, data state, mode 5 or 7: running off, 15, no beat, no flag". 02, No. 6:
+/// "Ending 15 is then for mode 7".
 fn unusable_mode(registers: &mut Registers) -> Result<(), Ending> {
-    if registers.motion == Motion::Nothing
-        && registers.state == State::Data
-        && (registers.mode == 5 || registers.mode == 7)
+    if registers.motion == Motion::Nothing && registers.state == State::Data && registers.mode == 7
     {
         registers.running = false;
         return Err(Ending::UnusableMode);
@@ -149,8 +152,9 @@ fn first_word(registers: &mut Registers, memory: &LentMemory) -> Result<u16, End
 }
 
 /// 01: "A command beat first ends pen hold if it is on (pen enable on, hold off)". First, so that
-/// a push jump stores the pen on and LPOF has the last word.
-fn end_hold(registers: &mut Registers) {
+/// a push jump stores the pen on and LPOF has the last word. 02, No. 6: so do the fetches of a table
+/// word and of a routine word.
+pub fn end_hold(registers: &mut Registers) {
     if registers.pen_hold {
         registers.pen_enable = true;
         registers.pen_hold = false;
@@ -289,8 +293,8 @@ pub mod tests {
     }
 
     #[test]
-    fn mode_5_in_control_state_is_no_ending() {
-        let mut bench = Bench::at(0o100, &[0o1150]);
+    fn mode_7_in_control_state_is_no_ending() {
+        let mut bench = Bench::at(0o100, &[0o1170]);
         assert_eq!(bench.run(4), ended(Ending::BudgetSpent, 4, 0));
     }
 
@@ -452,7 +456,7 @@ pub mod tests {
 
     #[test]
     fn endings_without_a_beat_leave_hold() {
-        let mut bench = Bench::data(5, &[]);
+        let mut bench = Bench::data(7, &[]);
         bench.registers.pen_hold = true;
         assert_eq!(bench.run(5), ended(Ending::UnusableMode, 0, 0));
         assert!(bench.registers.pen_hold);
@@ -613,34 +617,32 @@ pub mod tests {
 
     #[test]
     fn the_stops_fetch_comes_before_an_unusable_mode() {
-        for mode in [5, 7] {
-            let asked = || {
-                let mut bench = Bench::data(mode, &[0o1234]);
-                bench.registers.stop_request = true;
-                bench
-            };
-            let mut bench = asked();
-            assert_eq!(bench.run(9), ended(Ending::ExternalStop, 0, 0));
-            assert_eq!(bench.registers.held(), Some(0o1234));
-            // Ending 15 keeps the word, and so does the stop after it.
-            resumed(&mut bench);
-            bench.loan = nothing_lent();
-            assert_eq!(bench.run(9), ended(Ending::UnusableMode, 0, 0));
-            assert_eq!(bench.registers.held(), Some(0o1234));
-            resumed(&mut bench);
-            assert_eq!(asked_to_stop(&mut bench), ended(Ending::ExternalStop, 0, 0));
-            assert_eq!(bench.registers.held(), Some(0o1234));
+        let asked = || {
+            let mut bench = Bench::data(7, &[0o1234]);
+            bench.registers.stop_request = true;
+            bench
+        };
+        let mut bench = asked();
+        assert_eq!(bench.run(9), ended(Ending::ExternalStop, 0, 0));
+        assert_eq!(bench.registers.held(), Some(0o1234));
+        // Ending 15 keeps the word, and so does the stop after it.
+        resumed(&mut bench);
+        bench.loan = nothing_lent();
+        assert_eq!(bench.run(9), ended(Ending::UnusableMode, 0, 0));
+        assert_eq!(bench.registers.held(), Some(0o1234));
+        resumed(&mut bench);
+        assert_eq!(asked_to_stop(&mut bench), ended(Ending::ExternalStop, 0, 0));
+        assert_eq!(bench.registers.held(), Some(0o1234));
 
-            let mut bench = asked();
-            let before = bench.registers;
-            bench.loan = nothing_lent();
-            assert_eq!(bench.run(9), ended(Ending::FetchOutsideLoan(0o200), 0, 0));
-            assert_eq!(bench.registers, before);
-            bench.loan = Loan::all();
-            bench.put(0o200, &[0o10000]);
-            assert_eq!(bench.run(9), ended(Ending::WordTooWide, 0, 0));
-            assert_eq!(bench.registers, before);
-        }
+        let mut bench = asked();
+        let before = bench.registers;
+        bench.loan = nothing_lent();
+        assert_eq!(bench.run(9), ended(Ending::FetchOutsideLoan(0o200), 0, 0));
+        assert_eq!(bench.registers, before);
+        bench.loan = Loan::all();
+        bench.put(0o200, &[0o10000]);
+        assert_eq!(bench.run(9), ended(Ending::WordTooWide, 0, 0));
+        assert_eq!(bench.registers, before);
     }
 
     #[test]

@@ -179,74 +179,121 @@ pub fn trace(
 ) -> (Progress, Option<Ending>) {
     // Copies of its own, which no store of a point can change.
     let (mut ink, mut now) = (Ink { ..ink }, start);
-    let asked = line.lit | ink.paper.all_lit;
-    let y = signed(UP << ink.scale, line.y_minus);
-    let x = signed(RIGHT << ink.scale, line.x_minus);
-    // The axis of the larger magnitude goes on in each move.
-    let (straight, other, magnitude) = if line.x_magnitude < line.y_magnitude {
-        (y, x, line.x_magnitude)
-    } else {
-        (x, y, line.y_magnitude)
-    };
-    let slanted = straight.wrapping_add(other);
-    let moves = u32::from(line.moves);
-    let mut done = u32::from(line.done);
-    // (2km + n) mod 2n: the other axis goes on where 2m more passes 2n. It is n again after n
-    // moves, so that a vector continue starts over by itself.
-    let more = 2 * u32::from(magnitude);
-    let full = 2 * moves;
-    let mut rest = if done == 0 {
-        moves
-    } else {
-        (done * more + moves) % full
-    };
-    loop {
-        let end = moves.min(done + now.left);
-        while done < end {
-            rest += more;
-            let step = if rest >= full { slanted } else { straight };
-            rest -= if rest >= full { full } else { 0 };
-            match ink.advance(&mut now, step, asked) {
-                Ok(()) => done += 1,
-                Err(Obstacle::Full) => {
-                    leave_line(registers, line, done);
-                    return (now, Some(Ending::PointListFull));
-                }
-                Err(Obstacle::Edge(edge)) => {
-                    done += 1;
-                    now.left -= 1;
-                    if continues {
-                        return (now, None);
-                    }
-                    now.beam = edge.wrapped;
-                    if let Err(ending) = ink.paper.stop(&edge, registers) {
-                        if done < moves {
-                            leave_line(registers, line, done);
-                        }
-                        return (now, Some(ending));
-                    }
-                }
-            }
-        }
-        if done == moves {
-            if !continues {
-                return (now, None);
-            }
-            done = 0;
-        }
-        if now.left == 0 {
+    match ink.strokes(&mut now, line, continues, registers) {
+        Ok(()) => (now, None),
+        Err((ending, done)) => {
             leave_line(registers, line, done);
-            return (now, Some(Ending::BudgetSpent));
+            (now, Some(ending))
         }
     }
 }
 
 #[cold]
-fn leave_line(registers: &mut Registers, line: &Line, done: u32) {
-    registers.motion = Motion::Line(Line {
-        done: done as u16,
-        ..*line
-    });
+fn leave_line(registers: &mut Registers, line: &Line, done: Option<u16>) {
+    if let Some(done) = done {
+        registers.motion = Motion::Line(Line { done, ..*line });
+    }
+}
+
+impl Ink<'_> {
+    /// The moves of a line. Where the run ends in it: the ending, and the moves done if some are
+    /// left.
+    #[inline(always)]
+    pub fn strokes(
+        &mut self,
+        now: &mut Progress,
+        line: &Line,
+        continues: bool,
+        registers: &mut Registers,
+    ) -> Result<(), (Ending, Option<u16>)> {
+        let asked = line.lit | self.paper.all_lit;
+        let y = signed(UP << self.scale, line.y_minus);
+        let x = signed(RIGHT << self.scale, line.x_minus);
+        // The axis of the larger magnitude goes on in each move.
+        let (straight, other, magnitude) = if line.x_magnitude < line.y_magnitude {
+            (y, x, line.x_magnitude)
+        } else {
+            (x, y, line.y_magnitude)
+        };
+        let slanted = straight.wrapping_add(other);
+        let moves = u32::from(line.moves);
+        let mut done = u32::from(line.done);
+        // (2km + n) mod 2n: the other axis goes on where 2m more passes 2n. It is n again after n
+        // moves, so that a vector continue starts over by itself.
+        let more = 2 * u32::from(magnitude);
+        let full = 2 * moves;
+        let mut rest = if done == 0 {
+            moves
+        } else {
+            (done * more + moves) % full
+        };
+        loop {
+            let end = moves.min(done + now.left);
+            while done < end {
+                rest += more;
+                let step = if rest >= full { slanted } else { straight };
+                rest -= if rest >= full { full } else { 0 };
+                match self.advance(now, step, asked) {
+                    Ok(()) => done += 1,
+                    Err(Obstacle::Full) => {
+                        return Err((Ending::PointListFull, Some(done as u16)));
+                    }
+                    Err(Obstacle::Edge(edge)) => {
+                        done += 1;
+                        now.left -= 1;
+                        if continues {
+                            return Ok(());
+                        }
+                        now.beam = edge.wrapped;
+                        if let Err(ending) = self.paper.stop(&edge, registers) {
+                            return Err((ending, (done < moves).then_some(done as u16)));
+                        }
+                    }
+                }
+            }
+            if done == moves {
+                if !continues {
+                    return Ok(());
+                }
+                done = 0;
+            }
+            if now.left == 0 {
+                return Err((Ending::BudgetSpent, Some(done as u16)));
+            }
+        }
+    }
+
+    /// The moves of a byte. Where the run ends in them: the ending, and the moves left.
+    #[inline(always)]
+    pub fn byte_moves(
+        &mut self,
+        now: &mut Progress,
+        byte: u32,
+        moves_left: u16,
+        registers: &mut Registers,
+    ) -> Result<(), (Ending, u16)> {
+        let asked = byte & 0o40 != 0 || self.paper.all_lit;
+        let step = DIRECTIONS[(byte & 7) as usize] << self.scale;
+        let mut moves_left = moves_left;
+        while moves_left > 0 {
+            if now.left == 0 {
+                return Err((Ending::BudgetSpent, moves_left));
+            }
+            match self.advance(now, step, asked) {
+                Ok(()) => moves_left -= 1,
+                Err(Obstacle::Full) => return Err((Ending::PointListFull, moves_left)),
+                Err(Obstacle::Edge(edge)) => {
+                    now.left -= 1;
+                    now.beam = edge.wrapped;
+                    moves_left -= 1;
+                    if let Err(ending) = self.paper.stop(&edge, registers) {
+                        return Err((ending, moves_left));
+                    }
+                }
+            }
+        }
+        Ok(())
+    }
 }
 
 /// The moves of increment bytes, until they end or the run does, and whether they escape. What is
@@ -260,53 +307,64 @@ pub fn increments(
 ) -> (Progress, Option<Ending>, bool) {
     let (mut ink, mut now, mut bytes) = (Ink { ..ink }, start, bytes);
     loop {
-        let byte = match bytes.side {
-            Side::Left => u32::from(bytes.word >> 6),
-            Side::Right => u32::from(bytes.word & 0o77),
-        };
-        let asked = byte & 0o40 != 0 || ink.paper.all_lit;
-        let step = DIRECTIONS[(byte & 7) as usize] << ink.scale;
-        let escapes = byte & 0o30 == 0;
-        while bytes.moves_left > 0 {
-            if now.left == 0 {
-                registers.motion = Motion::Bytes(bytes);
-                return (now, Some(Ending::BudgetSpent), false);
-            }
-            match ink.advance(&mut now, step, asked) {
-                Ok(()) => bytes.moves_left -= 1,
-                Err(Obstacle::Full) => {
-                    registers.motion = Motion::Bytes(bytes);
-                    return (now, Some(Ending::PointListFull), false);
-                }
-                Err(Obstacle::Edge(edge)) => {
-                    now.left -= 1;
-                    now.beam = edge.wrapped;
-                    bytes.moves_left -= 1;
-                    if let Err(ending) = ink.paper.stop(&edge, registers) {
-                        let escaped = leave_bytes(registers, bytes, escapes);
-                        return (now, Some(ending), escaped);
-                    }
-                }
-            }
+        let byte = byte_of(bytes);
+        let escape = escapes(byte);
+        if let Err((ending, moves_left)) =
+            ink.byte_moves(&mut now, byte, bytes.moves_left, registers)
+        {
+            let escaped = leave_bytes(registers, bytes, moves_left);
+            return (now, Some(ending), escaped);
         }
-        if escapes || bytes.side == Side::Right {
-            return (now, None, escapes);
+        if escape || bytes.side == Side::Right {
+            return (now, None, escape);
         }
         bytes = right(bytes);
     }
 }
 
-/// What is left of the bytes after an edge stop; whether they are over and escape.
+/// What is left of bytes goes into the registers; whether they are over and escape.
 #[cold]
-fn leave_bytes(registers: &mut Registers, bytes: Bytes, escapes: bool) -> bool {
+fn leave_bytes(registers: &mut Registers, bytes: Bytes, moves_left: u16) -> bool {
+    match bytes_left(Bytes {
+        moves_left,
+        ..bytes
+    }) {
+        Some(left) => {
+            registers.motion = Motion::Bytes(left);
+            false
+        }
+        None => escapes(byte_of(bytes)),
+    }
+}
+
+/// What is left of bytes at a run's end, if anything is; no moves of the byte may be.
+#[cold]
+pub fn bytes_left(bytes: Bytes) -> Option<Bytes> {
     if bytes.moves_left > 0 {
-        registers.motion = Motion::Bytes(bytes);
-        return false;
+        Some(bytes)
+    } else if bytes.side == Side::Left && !escapes(byte_of(bytes)) {
+        Some(right(bytes))
+    } else {
+        None
     }
-    if !escapes && bytes.side == Side::Left {
-        registers.motion = Motion::Bytes(right(bytes));
+}
+
+/// The byte that is being executed.
+pub fn byte_of(bytes: Bytes) -> u32 {
+    match bytes.side {
+        Side::Left => u32::from(bytes.word >> 6),
+        Side::Right => u32::from(bytes.word & 0o77),
     }
-    escapes
+}
+
+/// Whether a byte escapes.
+pub fn escapes(byte: u32) -> bool {
+    byte & 0o30 == 0
+}
+
+/// The moves that a byte asks for.
+pub fn moves(byte: u32) -> u16 {
+    (byte as u16 >> 3 & 3).max(1)
 }
 
 fn signed(step: u32, minus: bool) -> u32 {
@@ -322,7 +380,7 @@ pub fn left(word: u16, address: u16) -> Bytes {
     Bytes {
         word,
         side: Side::Left,
-        moves_left: (word >> 9 & 3).max(1),
+        moves_left: moves(u32::from(word >> 6)),
         last_word: address,
     }
 }
@@ -331,7 +389,7 @@ pub fn left(word: u16, address: u16) -> Bytes {
 fn right(bytes: Bytes) -> Bytes {
     Bytes {
         side: Side::Right,
-        moves_left: (bytes.word >> 3 & 3).max(1),
+        moves_left: moves(u32::from(bytes.word)),
         ..bytes
     }
 }

@@ -47,8 +47,8 @@ const PARAMETERS: [Change; 512] = {
     changes
 };
 
-/// The status after a parameter word.
-fn parameter(word: u32, status: u32) -> u32 {
+/// The status after a parameter word, or a parameter character, which has the same bits.
+pub fn parameter(word: u32, status: u32) -> u32 {
     PARAMETERS[(word & 0o777) as usize].of(status)
 }
 
@@ -203,7 +203,7 @@ fn miscellaneous(now: &mut Display, word: u32) {
 }
 
 /// One field of the status counted up or down, stopping at the ends.
-fn counted(status: u32, down: bool, field: u32) -> u32 {
+pub fn counted(status: u32, down: bool, field: u32) -> u32 {
     let one = field & field.wrapping_neg();
     let value = status & field;
     if down {

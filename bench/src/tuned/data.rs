@@ -3,10 +3,12 @@
 use second::{Bytes, Ending, Line, Motion, Registers};
 
 use super::beam::{self, Beam, Paper};
+use super::characters;
 use super::display::*;
 use super::lent::{address_after, Lent};
 
-/// One data word or two, the first held or else fetched, and the moves of a line or of bytes.
+/// One data word or two, the first held or else fetched, and the moves of a line or of bytes; or
+/// character words.
 #[inline(always)]
 pub fn beats(
     now: &mut Display,
@@ -17,7 +19,7 @@ pub fn beats(
     held: Option<u32>,
 ) -> Result<(), Ending> {
     let mode = now.mode();
-    if mode == 5 || mode == 7 {
+    if mode == 7 {
         registers.running = false;
         return Err(Ending::UnusableMode);
     }
@@ -32,19 +34,27 @@ pub fn beats(
             now.go_on(1);
             increments(now, registers, paper, points, bytes)
         }
+        5 => {
+            let text = characters::Text {
+                now: *now,
+                registers,
+                fetches: lent.fetches(),
+                paper,
+                points,
+            };
+            let made;
+            (*now, made) = characters::words(text, word);
+            made
+        }
         6 => graphplot(now, registers, paper, points, word),
         _ => {
-            // A short vector as the two words of a vector.
-            let (first, second, last_word) = if mode == 4 {
-                let y = word & (BIT_0 | BIT_1) | word >> 6 & 0o17;
-                let x = (word & (BIT_6 | BIT_7)) << 6 | word & 0o17;
-                (y, x, now.address)
+            let line = if mode == 4 {
+                short_vector(word, now.address)
             } else {
                 let next = address_after(now.address, 1);
-                (word, lent.fetch(next)?, next)
+                line(word, lent.fetch(next)?, next)
             };
             now.go_on(if mode == 4 { 1 } else { 2 });
-            let line = line(first, second, last_word);
             if line.moves == 0 {
                 now.data &= !line.escape;
                 return Ok(());
@@ -90,6 +100,14 @@ pub fn increments(
         now.data = false;
     }
     ending.map_or(Ok(()), Err)
+}
+
+/// The line of a short vector, as that of the two words of a vector.
+#[inline(always)]
+pub fn short_vector(word: u32, address: u32) -> Line {
+    let y = word & (BIT_0 | BIT_1) | word >> 6 & 0o17;
+    let x = (word & (BIT_6 | BIT_7)) << 6 | word & 0o17;
+    line(y, x, address)
 }
 
 /// The line of a vector's two words, y first, and the address of its last word.

@@ -27,8 +27,10 @@ pub const INTENSITY: u32 = 0o7;
 /// Blink in a point's value.
 pub const BLINK: u32 = 1 << 23;
 
-/// The place of the last word's address in a point's value.
-const LAST_WORD: u32 = 24;
+/// The part of a point's value that tells the last word of its command.
+pub fn last_word(address: u32) -> u64 {
+    u64::from(address) << 24
+}
 
 /// The registers that a beat may change.
 #[derive(Clone, Copy)]
@@ -45,6 +47,12 @@ pub struct Display {
     /// Its part of a point's value.
     pub blink: u32,
     pub progress: Progress,
+}
+
+/// The beats left and the pen before beats that may end hold.
+pub struct Held {
+    left: u32,
+    pen: u32,
 }
 
 impl Display {
@@ -105,18 +113,44 @@ impl Display {
     }
 
     /// The part of a point's value that is not the beam's, for a command with this last word.
-    pub fn glow(&self, last_word: u32) -> u64 {
+    pub fn glow(&self, address: u32) -> u64 {
         let look = (self.status & INTENSITY) << 20 | self.blink;
-        u64::from(last_word) << LAST_WORD | u64::from(look)
+        last_word(address) | u64::from(look)
     }
 
-    pub fn ink<'a>(&self, paper: Paper, points: &'a mut [u64], last_word: u16) -> Ink<'a> {
+    pub fn ink<'a>(&self, paper: Paper, points: &'a mut [u64], address: u16) -> Ink<'a> {
         Ink {
             paper,
             points,
-            glow: self.glow(u32::from(last_word)),
+            glow: self.glow(u32::from(address)),
             scale: self.scale(),
         }
+    }
+
+    /// Before beats that begin with a fetch: the pen as the first of them finds it, which ends hold.
+    /// Answers what `end_hold` needs.
+    #[inline(always)]
+    pub fn hold_to_end(&mut self, registers: &Registers) -> Held {
+        let held = Held {
+            left: self.progress.left,
+            pen: self.status & PEN,
+        };
+        if registers.pen_hold {
+            self.status |= PEN;
+        }
+        held
+    }
+
+    /// Behind such beats: hold is ended, or stays with the pen as it was if no beat was made.
+    /// Answers whether one was.
+    #[inline(always)]
+    pub fn end_hold(&mut self, registers: &mut Registers, held: Held) -> bool {
+        if self.progress.left == held.left {
+            self.status = self.status & !PEN | held.pen;
+            return false;
+        }
+        registers.pen_hold = false;
+        true
     }
 
     /// The beat is made, and the next word is `words` further on.

@@ -18,10 +18,39 @@ pub fn pointer_after(pointer: u32, count: u32) -> u32 {
 }
 
 /// A range is its low end and its length, so that one comparison tests both ends.
+type Range = (u32, u32);
+
+fn holds(range: Range, address: u32) -> bool {
+    address.wrapping_sub(range.0) < range.1
+}
+
 pub struct Lent<'a> {
     words: &'a mut [u16; WORDS],
-    file: (u32, u32),
-    list: (u32, u32),
+    file: Range,
+    list: Range,
+}
+
+/// The same for fetches alone, so that it can be copied.
+#[derive(Clone, Copy)]
+pub struct Fetches<'a> {
+    words: &'a [u16; WORDS],
+    file: Range,
+    list: Range,
+}
+
+impl Fetches<'_> {
+    /// The loan first, then the width.
+    #[inline(always)]
+    pub fn fetch(&self, address: u32) -> Result<u32, Ending> {
+        if !holds(self.file, address) && !holds(self.list, address) {
+            return Err(Ending::FetchOutsideLoan(address as u16));
+        }
+        let word = u32::from(self.words[(address & LAST_ADDRESS) as usize]);
+        if word > GREATEST_WORD {
+            return Err(Ending::WordTooWide);
+        }
+        Ok(word)
+    }
 }
 
 impl<'a> Lent<'a> {
@@ -42,21 +71,17 @@ impl<'a> Lent<'a> {
         }
     }
 
-    fn holds(range: (u32, u32), address: u32) -> bool {
-        address.wrapping_sub(range.0) < range.1
+    pub fn fetches(&self) -> Fetches<'_> {
+        Fetches {
+            words: self.words,
+            file: self.file,
+            list: self.list,
+        }
     }
 
-    /// The loan first, then the width.
     #[inline(always)]
     pub fn fetch(&self, address: u32) -> Result<u32, Ending> {
-        if !Self::holds(self.file, address) && !Self::holds(self.list, address) {
-            return Err(Ending::FetchOutsideLoan(address as u16));
-        }
-        let word = u32::from(self.words[(address & LAST_ADDRESS) as usize]);
-        if word > GREATEST_WORD {
-            return Err(Ending::WordTooWide);
-        }
-        Ok(word)
+        self.fetches().fetch(address)
     }
 
     /// The first word of a command: a held one is not fetched again.
@@ -72,7 +97,7 @@ impl<'a> Lent<'a> {
     #[inline(always)]
     pub fn store(&mut self, pointer: u32, words: [u32; 2]) -> Result<(), Ending> {
         let next = pointer_after(pointer, 1);
-        if !Self::holds(self.list, pointer) || !Self::holds(self.list, next) {
+        if !holds(self.list, pointer) || !holds(self.list, next) {
             return Err(self.barred(pointer, next));
         }
         self.words[pointer as usize & (WORDS - 1)] = words[0] as u16;
@@ -83,7 +108,7 @@ impl<'a> Lent<'a> {
     /// The ending at the first of two writes that may not both be made.
     #[cold]
     fn barred(&self, pointer: u32, next: u32) -> Ending {
-        let address = if Self::holds(self.list, pointer) {
+        let address = if holds(self.list, pointer) {
             next
         } else {
             pointer

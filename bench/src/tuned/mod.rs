@@ -8,9 +8,11 @@
 //! - what no beat changes (stop request, pen hold, conditions) is looked at once, not in each turn;
 //! - a held word is used before the loop of commands, which only fetches;
 //! - a line or a byte makes its moves in a loop of its own, with no division in it;
+//! - text goes on from word to word in a loop of its own, and so does each routine (`characters.rs`);
 //! - what all points of a command have in common, its last word too, is put together once.
 
 mod beam;
+mod characters;
 mod control;
 mod data;
 mod display;
@@ -20,7 +22,7 @@ use std::convert::Infallible;
 use std::mem;
 
 use beam::Paper;
-use display::{Display, PEN};
+use display::Display;
 use lent::{Lent, WORDS};
 use second::{Answer, Ending, Loan, Motion, Registers};
 
@@ -72,6 +74,18 @@ fn turns(
         Motion::Nothing => {}
         Motion::Line(line) => data::trace(now, registers, paper, points, line)?,
         Motion::Bytes(bytes) => data::increments(now, registers, paper, points, bytes)?,
+        Motion::Character(character) => {
+            let text = characters::Text {
+                now: *now,
+                registers,
+                fetches: lent.fetches(),
+                paper,
+                points,
+            };
+            let made;
+            (*now, made) = characters::rest_of_word(text, character);
+            made?
+        }
     }
     if now.progress.left == 0 {
         return Err(Ending::BudgetSpent);
@@ -88,15 +102,9 @@ fn turns(
     }
     // The first command beat ends hold and uses a held word, and nothing in the rest of a run brings
     // either back. Where no command beat is made, hold, pen and held word stay as they are.
-    let (left, pen) = (now.progress.left, now.status & PEN);
-    if registers.pen_hold {
-        now.status |= PEN;
-    }
+    let held = now.hold_to_end(registers);
     let Err(ending) = commands(now, registers, lent, paper, points);
-    if now.progress.left == left {
-        now.status = now.status & !PEN | pen;
-    } else {
-        registers.pen_hold = false;
+    if now.end_hold(registers, held) {
         registers.drop_held_word();
     }
     Err(ending)
@@ -153,7 +161,7 @@ mod tests {
     use super::*;
     use second::generate::{next_case, Chance};
     use second::replay::{Case, GivenMemory, Outcome, RunCase};
-    use second::{LoanRange, State};
+    use second::{Character, LoanRange, Routine, Side, Stage, State};
 
     type Run = fn(&mut Registers, &mut [u16], Loan, u32, &mut [u64]) -> Answer;
 
@@ -174,6 +182,7 @@ mod tests {
     fn it_answers_as_the_second_simulator() {
         let mut chance = Chance::new(7);
         let (mut runs, mut stops, mut held, mut unfinished) = (0, 0, 0, 0);
+        let (mut given, mut left_over) = (0, 0);
         while runs < 50_000 {
             if let Case::Run(case) = next_case(&mut chance) {
                 let left = same_outcome(&case);
@@ -181,17 +190,20 @@ mod tests {
                 stops += u32::from(left.answer.ending == Ending::ExternalStop);
                 held += u32::from(case.registers.word_is_held);
                 unfinished += u32::from(left.registers.motion != Motion::Nothing);
+                given += u32::from(matches!(case.registers.motion, Motion::Character(_)));
+                left_over += u32::from(matches!(left.registers.motion, Motion::Character(_)));
             }
         }
         assert!(stops > 2_000 && held > 10_000, "{stops} {held}");
         assert!(unfinished > 5_000, "{unfinished}");
+        assert!(given > 5_000 && left_over > 5_000, "{given} {left_over}");
     }
 
     /// Each word in each mode at the end of memory, where a second word is word 0, with a budget
     /// that ends most commands in mid motion.
     #[test]
     fn it_tells_every_last_word_as_the_second_simulator() {
-        for mode in [0, 1, 2, 3, 4, 6] {
+        for mode in 0..=6 {
             for word in 0..=0o7777 {
                 same_outcome(&RunCase {
                     registers: Registers {
@@ -254,6 +266,76 @@ mod tests {
                         pairs: vec![(0o400, 0o0123), (0o401, 0o0202)],
                     },
                 });
+            }
+        }
+    }
+
+    /// A display in mode 5 that writes the word 0102o, its table at 77000o, from this stage of its
+    /// left character on.
+    fn writing(seven_bits: bool, stage: Stage) -> Registers {
+        Registers {
+            display_address: 0o200,
+            x: 500,
+            y: 1_020,
+            state: State::Data,
+            mode: 5,
+            scale: 1,
+            intensity: 4,
+            pen_hold: true,
+            running: true,
+            upper_case: true,
+            starting_address: 0o77,
+            motion: Motion::Character(Character {
+                word: 0o0102,
+                seven_bits,
+                side: Side::Left,
+                stage,
+            }),
+            ..Registers::fresh()
+        }
+    }
+
+    fn same_text(registers: Registers, budget: u32, pairs: Vec<(u16, u16)>) {
+        same_outcome(&RunCase {
+            registers,
+            budget,
+            loan: Loan::all(),
+            room: 20,
+            given: GivenMemory {
+                length: WORDS,
+                default: 0o5432,
+                pairs,
+            },
+        });
+    }
+
+    /// Each word as a table word, of six bits and of seven.
+    #[test]
+    fn it_takes_every_table_word_as_the_second_simulator() {
+        for seven_bits in [false, true] {
+            for word in 0..=0o7777 {
+                let registers = writing(seven_bits, Stage::TableWord);
+                let pairs = vec![(0o77101, word), (0o77102, word ^ 0o7777)];
+                same_text(registers, 20, pairs);
+            }
+        }
+    }
+
+    /// Each word as a routine word of both kinds at the end of memory, with budgets that end in it
+    /// and behind it.
+    #[test]
+    fn it_takes_every_routine_word_as_the_second_simulator() {
+        for short_vectors in [false, true] {
+            let routine = Routine {
+                short_vectors,
+                next: 0o77777,
+            };
+            for word in 0..=0o7777 {
+                for budget in [1, 2, 3, 4, 7, 20] {
+                    let registers = writing(false, Stage::RoutineWord(routine));
+                    let pairs = vec![(0o77777, word), (0, word ^ 0o5252)];
+                    same_text(registers, budget, pairs);
+                }
             }
         }
     }

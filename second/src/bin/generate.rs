@@ -1,14 +1,18 @@
 //! The program `generate`: cases of a seed on standard output, or a report of what they reach, or
-//! every word and all of memory listed and read back.
+//! every word and all of memory listed and read back, or every word in the table and the routines of
+//! characters.
 
 use std::io::{self, BufWriter, Write};
 use std::process::ExitCode;
 
 use second::coverage::coverage;
-use second::generate::{cases_of_all_memory, cases_of_every_word, next_case, Chance};
+use second::generate::{
+    cases_of_all_memory, cases_of_every_character_word, cases_of_every_word, next_case, Chance,
+};
 use second::replay::{write_case, Case};
 
-const USAGE: &str = "usage: generate [--report] SEED COUNT\n       generate --words";
+const USAGE: &str =
+    "usage: generate [--report] SEED COUNT\n       generate --words\n       generate --characters";
 
 fn main() -> ExitCode {
     let arguments: Vec<String> = std::env::args().skip(1).collect();
@@ -19,6 +23,7 @@ fn main() -> ExitCode {
                 .into_iter()
                 .chain(cases_of_all_memory()),
         ),
+        ["--characters"] => write_cases(cases_of_every_character_word().into_iter()),
         ["--report", seed, count] => match (seed.parse(), count.parse()) {
             (Ok(seed), Ok(count)) => write_report(seed, count),
             _ => return usage(),

@@ -117,10 +117,10 @@ fn motion_row_names() -> Vec<String> {
     names
 }
 
-/// One of `MOTIONS` and its last word, if there is a motion.
+/// One of `MOTIONS` and its last word, if there is such a motion.
 fn motion_of(registers: &Registers) -> Option<(&'static str, u16)> {
     match registers.motion {
-        Motion::Nothing => None,
+        Motion::Nothing | Motion::Character(_) => None,
         Motion::Line(line) => Some(("a line", line.last_word)),
         Motion::Bytes(bytes) => Some(("bytes", bytes.last_word)),
     }
@@ -198,8 +198,12 @@ pub fn operation_reached(
 // ---------------------------------------------------------------- turns
 
 /// Where the point or the motion of a turn comes from, and the address of the last word: a command's
-/// second one in modes 0, 2 and 3, else its only one, or what a motion was handed in with.
+/// second one in modes 0, 2 and 3, else its only one, or what a motion was handed in with. Characters
+/// are looked at apart.
 fn origin_of(turn: &Turn) -> Option<(&'static str, u16)> {
+    if matches!(turn.before.motion, Motion::Character(_)) {
+        return None;
+    }
     let Some(command) = turn.command else {
         return motion_of(turn.before).map(|(_, word)| (HANDED_IN, word));
     };
@@ -212,7 +216,7 @@ fn origin_of(turn: &Turn) -> Option<(&'static str, u16)> {
 }
 
 /// 01, what the simulator covers, and 02, No. 5: the entry of a point, by the bits of its parts.
-fn entry(lit: &Registers, last_word: u16) -> u64 {
+pub fn entry(lit: &Registers, last_word: u16) -> u64 {
     u64::from(lit.x)
         | u64::from(lit.y) << 10
         | u64::from(lit.intensity) << 20
@@ -274,7 +278,7 @@ fn point_reached(coverage: &mut Coverage, turn: &Turn, origin: &str, word: u16) 
 
 /// The last turn of a run.
 pub fn ending_reached(coverage: &mut Coverage, turn: &Turn, ending: Ending) {
-    if turn.after.motion == Motion::Nothing {
+    if motion_of(turn.after).is_none() {
         return;
     }
     let (mode, number) = (turn.after.mode, ending.number());

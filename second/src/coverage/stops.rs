@@ -36,6 +36,7 @@ pub fn row_names() -> Vec<String> {
             "and no motion",
             "and a line unfinished",
             "and bytes unfinished",
+            "and a character unfinished",
             "on a stopped display",
             "on a running display",
             "and a stop request",
@@ -97,7 +98,7 @@ fn use_row_names() -> Vec<String> {
         names.push(format!("skip taken by held control word {kind}"));
         names.push(format!("no skip by held control word {kind}"));
     }
-    for mode in [0, 1, 2, 3, 4, 6] {
+    for mode in 0..=6 {
         names.push(format!("held data word, mode {mode} used"));
     }
     for state in ["control", "data"] {
@@ -144,7 +145,7 @@ fn use_row_names() -> Vec<String> {
 }
 
 /// Control state, and data state in each mode.
-fn states() -> Vec<String> {
+pub fn states() -> Vec<String> {
     let data = (0..=7).map(|mode| format!("data state, mode {mode}"));
     std::iter::once("control state".into())
         .chain(data)
@@ -152,7 +153,7 @@ fn states() -> Vec<String> {
 }
 
 /// One of `states`.
-fn state_of(registers: &Registers) -> String {
+pub fn state_of(registers: &Registers) -> String {
     match registers.state {
         State::Control => "control state".into(),
         State::Data => format!("data state, mode {}", registers.mode),
@@ -188,6 +189,7 @@ pub fn registers_reached(coverage: &mut Coverage, call: &str, given: &Registers)
         Motion::Nothing => "no motion",
         Motion::Line(_) => "a line unfinished",
         Motion::Bytes(_) => "bytes unfinished",
+        Motion::Character(_) => "a character unfinished",
     };
     let display = if given.running { "running" } else { "stopped" };
     let request = if given.stop_request { "a" } else { "no" };
@@ -283,11 +285,6 @@ impl Turn<'_> {
     fn at_the_end(&self) -> bool {
         self.before.display_address == 0o77777
     }
-
-    /// A move is made in data state, so it escaped if that is over.
-    fn behind_an_escape(&self) -> bool {
-        self.behind_a_move && self.before.state == State::Control
-    }
 }
 
 /// A turn that made a beat.
@@ -320,7 +317,7 @@ fn use_reached(coverage: &mut Coverage, turn: &Turn) {
     coverage.count_if(turn.first == 0o7777, "held word 7777o used");
     coverage.count_if(before.pen_hold, "held word used with pen hold ended");
     coverage.count_if(turn.behind_a_move, "held word used behind a motion");
-    coverage.count_if(turn.behind_an_escape(), "held word used behind an escape");
+    coverage.count_if(turn.behind_an_escape, "held word used behind an escape");
     let skipped = turn.after.display_address == address_after(before.display_address, 3);
     let taken = if skipped { "skip taken" } else { "no skip" };
     coverage.count(&format!("{taken} by held {command}"));
@@ -360,7 +357,7 @@ fn stop_reached(coverage: &mut Coverage, turn: &Turn) {
     for (reached, what) in [
         (turn.at_the_end(), "at word 77777o"),
         (turn.behind_a_move, "behind a motion"),
-        (turn.behind_an_escape(), "behind an escape"),
+        (turn.behind_an_escape, "behind an escape"),
         (turn.after.pen_hold, "with pen hold kept"),
     ] {
         coverage.count_if(reached, &format!("{stop} stop {what}"));

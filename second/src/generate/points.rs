@@ -6,7 +6,9 @@ use super::{
     registers_in_range, room, wild_word, write_command, Chance, File,
 };
 use crate::refusals_and_endings::{Loan, MEMORY_LENGTH};
-use crate::registers::{address_after, Bytes, Line, Motion, Registers, State, ADDRESSES, SECTOR};
+use crate::registers::{
+    address_after, Bytes, Character, Line, Motion, Registers, Stage, State, ADDRESSES, SECTOR,
+};
 use crate::replay::{GivenMemory, RunCase};
 
 /// The last word that a motion is handed in with: often the word before the display address, as its
@@ -31,6 +33,14 @@ fn with_last_word(motion: Motion, last_word: u16) -> Motion {
         Motion::Nothing => Motion::Nothing,
         Motion::Line(line) => Motion::Line(Line { last_word, ..line }),
         Motion::Bytes(bytes) => Motion::Bytes(Bytes { last_word, ..bytes }),
+        Motion::Character(character) => Motion::Character(Character {
+            stage: match character.stage {
+                Stage::Line(line) => Stage::Line(Line { last_word, ..line }),
+                Stage::Bytes(bytes) => Stage::Bytes(Bytes { last_word, ..bytes }),
+                other => other,
+            },
+            ..character
+        }),
     }
 }
 
@@ -138,7 +148,7 @@ fn put_before_an_end_of_entries(chance: &mut Chance, registers: &mut Registers) 
 fn changed_word(chance: &mut Chance, registers: &Registers) -> Option<(u16, u16)> {
     let place = match registers.motion {
         Motion::Nothing if registers.word_is_held => registers.display_address,
-        Motion::Nothing => return None,
+        Motion::Nothing | Motion::Character(_) => return None,
         Motion::Line(line) => line.last_word,
         Motion::Bytes(bytes) => bytes.last_word,
     };
@@ -181,7 +191,7 @@ mod tests {
     /// The last word of the motion, if there is one.
     fn last_word_of(motion: &Motion) -> Option<u16> {
         match motion {
-            Motion::Nothing => None,
+            Motion::Nothing | Motion::Character(_) => None,
             Motion::Line(line) => Some(line.last_word),
             Motion::Bytes(bytes) => Some(bytes.last_word),
         }
@@ -200,7 +210,7 @@ mod tests {
     #[test]
     fn a_motion_with_another_last_word_makes_the_same_run() {
         let (mut told, mut left) = (0, 0);
-        for case in runs(8, 6_000) {
+        for case in runs(8, 8_000) {
             let given = case.registers.motion;
             let Some(last_word) = last_word_of(&given) else {
                 continue;

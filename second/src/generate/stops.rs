@@ -33,6 +33,9 @@ pub fn stop_run(chance: &mut Chance) -> RunCase {
             let pointer = registers.pushdown_pointer;
             let back = chance.pick(&[0, 0, 1, 2]);
             registers.display_address = pointer_before(pointer, back);
+            if registers.motion == Motion::Nothing && chance.coin() {
+                registers.state = State::Control;
+            }
         }
         _ => {}
     }
@@ -55,7 +58,7 @@ pub fn stop_run(chance: &mut Chance) -> RunCase {
     pairs.extend(changed_words(chance, &file));
     let budget = if registers.motion != Motion::Nothing && chance.percent(30) {
         // The motion spends all of it.
-        moves_left(&registers.motion)
+        moves_left(chance, &registers.motion)
     } else if chance.percent(10) {
         0
     } else {
@@ -96,10 +99,12 @@ fn put_before_a_command(chance: &mut Chance, registers: &mut Registers) {
     };
 }
 
-/// The beats that the motion still takes, if no edge ends it. A vector continue goes on.
-fn moves_left(motion: &Motion) -> u32 {
+/// The beats that the motion still takes, if no edge ends it. A vector continue goes on. What a
+/// character takes is in memory, so it is tried.
+fn moves_left(chance: &mut Chance, motion: &Motion) -> u32 {
     match motion {
         Motion::Nothing => 0,
+        Motion::Character(_) => u32::from(chance.between(1, 9)),
         Motion::Line(line) => u32::from(line.moves - line.done),
         Motion::Bytes(bytes) => {
             let ends = bytes.side == Side::Right || byte_escapes(bytes.byte());

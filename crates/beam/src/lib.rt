@@ -16,11 +16,12 @@ pub enum Lit {
     Point(u64),
 }
 
-// Whether a beat stops the display, and by what.
+// Whether a beat stops the display, and by what: a stop word, an edge, or a control character of the unused form.
 pub enum Stop {
     None,
     Internal,
     Edge,
+    Unused,
 }
 
 // What a beat leaves that stores nothing.

@@ -10,7 +10,7 @@ use Rattle.registers.specs.Good.{Good}
 use Rattle.registers.proofs.InRange.{good}
 use Rattle.loan.specs.declared.Loan.{Loan}
 use Rattle.beam.specs.declared.Stop.{Stop}
-use Rattle.beam.specs.declared.Stop.the-variants.{None, Internal, Edge}
+use Rattle.beam.specs.declared.Stop.the-variants.{None, Internal, Edge, Unused}
 use Rattle.beam.specs.DataWords.{points}
 use Rattle.touches.specs.declared.Resting.{Resting}
 use Rattle.touches.specs.declared.Resting.the-variants.{External, Unusable}
@@ -53,6 +53,7 @@ unfolding halted endingNumbers
 halted-small None = tt
 halted-small Internal = omega arith
 halted-small Edge = omega arith
+halted-small Unused = omega arith
 
 module _ (l : Loan) where
   onward-small : (go : Go) → ((room : ℕ) (r : Registers) → Good r → (m : List ℕ) → Small (go room r m .ending)) →

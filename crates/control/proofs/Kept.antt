@@ -8,11 +8,15 @@ use Rattle.addresses.specs.Addresses.{addressAfter, addressIn, pointerAfter, po
 use Rattle.registers.specs.declared.Base.{Base}
 use Rattle.registers.specs.Good.{GoodBase}
 use Rattle.registers.proofs.Setting.{address-set, pointer-set, x-set, y-set, mode-set, scale-set, intensity-set}
-use Rattle.control.specs.ControlWords.{scaleBy, parameter, coordinate, mode, jump, push, pop}
+use Rattle.control.specs.ControlWords.{scaleBy, intensityBy, parameter, coordinate, mode, jump, push, pop}
 
-scale-small : (w : ℕ) {old : ℕ} → old < 4 → scaleBy w old < 4
+pub scale-small : (w : ℕ) {old : ℕ} → old < 4 → scaleBy w old < 4
 unfolding scaleBy
 scale-small w h = pick-case (λ (n : ℕ). n < 4) (bit w 3) (λ _. omega arith) (λ _. h)
+
+pub intensity-small : (w : ℕ) {old : ℕ} → old < 8 → intensityBy w old < 8
+unfolding intensityBy
+intensity-small w h = pick-case (λ (n : ℕ). n < 8) (bit w 8) (λ _. omega arith) (λ _. h)
 
 coordinate-small : (w v : ℕ) → v < 8192 → coordinate w v < 8192
 unfolding coordinate
@@ -23,8 +27,7 @@ coordinate-small w v h =
 pub parameter-good : (b : Base) (w : ℕ) → GoodBase b → GoodBase (parameter b w)
 unfolding parameter addressAfter
 parameter-good b w g =
-    intensity-set (scale-set (address-set g (omega arith)) (scale-small w (g .scale)))
-    (pick-case (λ (n : ℕ). n < 8) (bit w 8) (λ _. omega arith) (λ _. g .intensity))
+    intensity-set (scale-set (address-set g (omega arith)) (scale-small w (g .scale))) (intensity-small w (g .intensity))
 
 pub mode-good : (b : Base) (w : ℕ) → GoodBase b → GoodBase (mode b w)
 unfolding mode addressAfter

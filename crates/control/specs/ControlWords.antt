@@ -15,13 +15,17 @@ scaleBy w old = pick (bit w 3) (bits w 4 5) old
 unfoldable pub penBy : ℕ → Bool → Bool
 penBy w old = pick (bit w 6) (bit w 7) old
 
+-- intensity by its enable bit (manual 2.1.1)
+unfoldable pub intensityBy : ℕ → ℕ → ℕ
+intensityBy w old = pick (bit w 8) (bits w 9 11) old
+
 abbrev pub scaleAndPen : Base → ℕ → Base
 scaleAndPen b w = withPen (withScale b (scaleBy w (b .scale))) (penBy w (b .pen))
 
 -- 0: scale, pen, intensity by enable bits
 unfoldable pub parameter : Base → ℕ → Base
 parameter b w =
-    withIntensity (scaleAndPen (withAddress b (addressAfter (b .address) 1)) w) (pick (bit w 8) (bits w 9 11) (b .intensity))
+    withIntensity (scaleAndPen (withAddress b (addressAfter (b .address) 1)) w) (intensityBy w (b .intensity))
 
 -- 1: bit 4 clears both hit flags
 abbrev pub unhit : Base → ℕ → Base

@@ -1,7 +1,7 @@
 // The control words 0 to 3, each on the registers other than the motion. A command picks the new values and calls a setter: only setters hold a
 // struct literal, which keeps both the compiled code and the proofs small. Words 4 to 7 are in skips and button_skips.
 ghost use mathlib.Core.Path.{_≡_};
-ghost use Rattle.control.specs.ControlWords.{scaleBy, penBy, parameter, coordinate, mode, jump, push, pushedFirst, pushedSecond, pop};
+ghost use Rattle.control.specs.ControlWords.{scaleBy, penBy, intensityBy, parameter, coordinate, mode, jump, push, pushedFirst, pushedSecond, pop};
 ghost use Rattle.control.specs.Setters.{statusSet, modeSet};
 use addresses::DisplayAddress;
 use addresses::PushdownPointer;
@@ -59,17 +59,24 @@ fn mode_set(
     }
 }
 
-// Scale and pen by their enable bits, as words 0, 2 and 3 share them.
-fn scale_by(word: u16, old: u8) -> u8
+// Scale and pen by their enable bits, as words 0, 2 and 3 and the character generator's parameter character share them.
+pub fn scale_by(word: u16, old: u8) -> u8
     ensures { λ r. ⌜ r ≡ scaleBy word old ⌝ }
 {
     words::pick_u8(words::bit(word, 3), words::bits(word, 4, 5) as u8, old)
 }
 
-fn pen_by(word: u16, old: bool) -> bool
+pub fn pen_by(word: u16, old: bool) -> bool
     ensures { λ r. ⌜ r ≡ penBy word old ⌝ }
 {
     words::pick_bool(words::bit(word, 6), words::bit(word, 7), old)
+}
+
+// Intensity by its enable bit, as word 0 and the parameter character share it.
+pub fn intensity_by(word: u16, old: u8) -> u8
+    ensures { λ r. ⌜ r ≡ intensityBy word old ⌝ }
+{
+    words::pick_u8(words::bit(word, 8), words::bits(word, 9, 11) as u8, old)
 }
 
 // 0: scale, pen, intensity.
@@ -78,11 +85,7 @@ pub fn parameter(b: Base, word: u16) -> Base
 {
     let scale = scale_by(word, b.scale);
     let pen = pen_by(word, b.pen);
-    let intensity = words::pick_u8(
-        words::bit(word, 8),
-        words::bits(word, 9, 11) as u8,
-        b.intensity,
-    );
+    let intensity = intensity_by(word, b.intensity);
     status_set(
         b,
         b.address.after(1),

@@ -15,11 +15,14 @@ use Rattle.button_skips.proofs.Kept.{button-skip-good, compare-good}
 use Rattle.beam.specs.declared.Lit.the-variants.{Dark}
 use Rattle.beam.proofs.Kept.{GoodLeft}
 use Rattle.touches.proofs.Kept.{GoodAct, GoodBeat}
-use Rattle.control_beats.specs.ControlWords.{ready, pushAct, jumpBeat, popBeat, miscellaneous, controlBeat}
+use Rattle.control_beats.specs.ControlWords.{holdEnded, ready, pushAct, jumpBeat, popBeat, miscellaneous, controlBeat}
 
 -- a control word lights nothing and begins no motion
 dark : {b : Base} → GoodBase b → GoodLeft (record { base = b; motion = Nothing }) Dark
 dark g = record { registers = record { base = g; motion = tt }; lit = tt }
+
+pub hold-ended-good : (b : Base) → GoodBase b → GoodBase (holdEnded b)
+hold-ended-good b g = g
 
 pub ready-good : (b : Base) → GoodBase b → GoodBase (ready b)
 ready-good b g = held-set g tt

@@ -20,9 +20,13 @@ use Rattle.touches.specs.declared.Act.{Act}
 use Rattle.touches.specs.declared.Stores.the-variants.{Two}
 use Rattle.touches.specs.Touches.{Beat, fetch, act, whole}
 
--- a command beat, of a control word or a data word, first ends pen hold if it is on (pen enable on, hold off); the held word is used up (02, No. 4)
+-- pen hold ends if it is on: pen enable on, hold off
+abbrev pub holdEnded : Base → Base
+holdEnded b = withHold (withPen b (b .pen || b .hold)) false
+
+-- a command beat, of a control word or a data word, first ends pen hold; the held word is used up (02, No. 4)
 abbrev pub ready : Base → Base
-ready b = withHeld (withHold (withPen b (b .pen || b .hold)) false) Empty
+ready b = withHeld (holdEnded b) Empty
 
 -- a control word that stores nothing: registers, no motion, no point
 abbrev pub done : Base → Stop → Outcome

@@ -4,7 +4,7 @@ ghost use Rattle.beam.specs.declared.Stop.the-variants.{None, Internal};
 ghost use Rattle.words.specs.Words.{pick};
 ghost use Rattle.touches.specs.Touches.{walk};
 ghost use Rattle.touches.specs.Said.{said};
-ghost use Rattle.control_beats.specs.ControlWords.{ready, done, pushAct, jumpBeat, popBeat, miscellaneous, controlBeat};
+ghost use Rattle.control_beats.specs.ControlWords.{holdEnded, ready, done, pushAct, jumpBeat, popBeat, miscellaneous, controlBeat};
 use beam::Lit;
 use beam::Outcome;
 use beam::Stop;
@@ -17,6 +17,17 @@ use touches::Act;
 use touches::Got;
 use touches::Stores;
 use touches::Turn;
+
+// How every beat that fetches begins: pen hold ends.
+pub fn hold_ended(b: Base) -> Base
+    ensures { λ r. ⌜ r ≡ holdEnded b ⌝ }
+{
+    Base {
+        pen: b.pen | b.hold,
+        hold: false,
+        ..b
+    }
+}
 
 // How every command beat begins: pen hold ends, and the held word is used up.
 pub fn ready(b: Base) -> Base

@@ -10,8 +10,9 @@ use Rattle.paper.specs.declared.Reached.{Reached}
 use Rattle.paper.specs.DataWords.{distance, dimension, moved}
 use Rattle.registers.specs.declared.Base.{Base}
 use Rattle.registers.specs.declared.LineMotion.{LineMotion}
+use Rattle.registers.specs.declared.Stage.the-variants.{Table}
 use Rattle.registers.specs.declared.Motion.{Motion}
-use Rattle.registers.specs.declared.Motion.the-variants.{Nothing, Line, Bytes}
+use Rattle.registers.specs.declared.Motion.the-variants.{Nothing, Line, Bytes, Character}
 use Rattle.registers.specs.Registers.{larger, byteAt, movesAsked}
 use Rattle.registers.specs.With.{withAddress}
 use Rattle.beam.specs.declared.Lit.the-variants.{Dark}
@@ -89,6 +90,10 @@ vector b w v = begun (passing b 2) (secondWord b) (vectorLine w v)
 
 unfoldable pub shortVector : Base → ℕ → Outcome
 shortVector b w = begun (passing b 1) (onlyWord b) (shortLine w)
+
+-- character (02, No. 6): the word is one code of seven bits or two of six, as the code size is in this beat, the left one first; its table word is to come
+unfoldable pub character : Base → ℕ → Outcome
+character b w = unlit (passing b 1) (Character (record { word = w; seven = b .seven; right = false; stage = Table }))
 
 -- graphplot (one beat): one axis moves +s, the other's low 10 bits are set, after a violation too; the word always asks for its point; bit 1 is 0 where x
 -- moves (manual 2.2.7)

@@ -2,7 +2,7 @@
 ghost use mathlib.Core.Path.{_≡_};
 ghost use Rattle.registers.specs.With.{withAddress};
 ghost use Rattle.drawing.specs.Setters.{stateSet};
-ghost use Rattle.drawing.specs.DataWords.{unlit, placed, point, increment, vectorLine, shortLine, begun, vector, shortVector, graphplot};
+ghost use Rattle.drawing.specs.DataWords.{unlit, placed, point, increment, vectorLine, shortLine, begun, vector, shortVector, character, graphplot};
 use addresses::DisplayAddress;
 use beam::Lit;
 use beam::Outcome;
@@ -10,9 +10,11 @@ use beam::Stop;
 use paper::Reached;
 use registers::Base;
 use registers::ByteMotion;
+use registers::CharacterMotion;
 use registers::LineMotion;
 use registers::Motion;
 use registers::Registers;
+use registers::Stage;
 
 fn state_set(b: Base, address: DisplayAddress, datastate: bool) -> Base
     ensures { λ r. ⌜ r ≡ stateSet b address datastate ⌝ }
@@ -25,7 +27,7 @@ fn state_set(b: Base, address: DisplayAddress, datastate: bool) -> Base
 }
 
 // A command beat that lights nothing and stops nothing.
-fn unlit(base: Base, motion: Motion) -> Outcome
+pub fn unlit(base: Base, motion: Motion) -> Outcome
     ensures { λ r. ⌜ r ≡ unlit base motion ⌝ }
 {
     let registers = Registers { base, motion };
@@ -101,7 +103,7 @@ fn vector_line(word: u16, second: u16) -> LineMotion
 }
 
 // The line of a short vector's word.
-fn short_line(word: u16) -> LineMotion
+pub fn short_line(word: u16) -> LineMotion
     ensures { λ r. ⌜ r ≡ shortLine word ⌝ }
 {
     let magx = words::bits(word, 8, 11);
@@ -153,6 +155,20 @@ pub fn short_vector(b: Base, word: u16) -> Outcome
     ensures { λ r. ⌜ r ≡ shortVector b word ⌝ }
 {
     begun(b, b.address.after(1), b.address, short_line(word))
+}
+
+// Mode 5: one character of seven bits, or two of six, the left one first. The code size is that of this beat.
+pub fn character(b: Base, word: u16) -> Outcome
+    ensures { λ r. ⌜ r ≡ character b word ⌝ }
+{
+    let next = state_set(b, b.address.after(1), b.datastate);
+    let character = CharacterMotion {
+        word,
+        seven: b.seven,
+        right: false,
+        stage: Stage::Table,
+    };
+    unlit(next, Motion::Character(character))
 }
 
 // Mode 6: one axis moves on, the other is set.

@@ -7,7 +7,7 @@ use Rattle.registers.specs.declared.Registers.{Registers}
 use Rattle.registers.specs.declared.Held.the-variants.{Holds}
 use Rattle.registers.specs.With.{withRunning, withRequest, withExternal, withHeld}
 use Rattle.beam.specs.declared.Stop.{Stop}
-use Rattle.beam.specs.declared.Stop.the-variants.{None, Internal, Edge}
+use Rattle.beam.specs.declared.Stop.the-variants.{None, Internal, Edge, Unused}
 use Rattle.touches.specs.declared.Resting.{Resting}
 use Rattle.touches.specs.declared.Resting.the-variants.{External, Unusable}
 use Rattle.touches.specs.declared.Why.{Why}
@@ -28,11 +28,12 @@ unfoldable pub restEnding : Resting → Ending
 restEnding (External word) = ExternalStop
 restEnding Unusable = UnusableMode
 
--- a beat that stops the display ends the run with 12 or 14
+-- a beat that stops the display ends the run with 12 or 14; a control character of the unused form "stops as an unusable mode" (02, No. 6)
 unfoldable pub halted : Stop → Halt
 halted None = Goes
 halted Internal = Ends InternalStop
 halted Edge = Ends EdgeStop
+halted Unused = Ends UnusableMode
 
 -- THIS PAPER'S NUMBERS for each ending
 

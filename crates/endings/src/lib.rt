@@ -75,6 +75,7 @@ pub fn halted(stop: Stop) -> Halt
         Stop::None => Halt::Goes,
         Stop::Internal => Halt::Ends(Ending::InternalStop),
         Stop::Edge => Halt::Ends(Ending::EdgeStop),
+        Stop::Unused => Halt::Ends(Ending::UnusableMode),
     }
 }
 

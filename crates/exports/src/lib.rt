@@ -38,7 +38,10 @@ fn leave_operation(reply: Reply, r: Registers, row: &mut [u16; numbers::ROW])
     match reply {
         Reply::Refused(_) => {}
         Reply::Done(_) => {
-            *row = numbers::row_of(r);
+            let b = r.base;
+            let m = r.motion;
+            *row = numbers::still_row(b);
+            motion_numbers::lay(m, row);
         }
     }
 }
@@ -51,7 +54,10 @@ fn leave_run(answer: Answer, r: Registers, row: &mut [u16; numbers::ROW])
     match answer {
         Answer::Refused(_) => {}
         Answer::Ended(_, _, _) => {
-            *row = numbers::row_of(r);
+            let b = r.base;
+            let m = r.motion;
+            *row = numbers::still_row(b);
+            motion_numbers::lay(m, row);
         }
     }
 }

@@ -15,7 +15,7 @@ use Rattle.loan.specs.Loan.{mayFetch, mayStore, all}
 use Rattle.loan.specs.Fair.{Fair}
 use Rattle.loan.proofs.Touches.{may-fetch-all, may-store-all}
 use Rattle.beam.specs.declared.Stop.{Stop}
-use Rattle.beam.specs.declared.Stop.the-variants.{None, Internal, Edge}
+use Rattle.beam.specs.declared.Stop.the-variants.{None, Internal, Edge, Unused}
 use Rattle.touches.specs.declared.Act.{Act}
 use Rattle.touches.specs.declared.Got.the-variants.{Word, Not}
 use Rattle.touches.specs.declared.Resting.{Resting}
@@ -27,7 +27,7 @@ use Rattle.touches.specs.Touches.{Beat, fetch, act, rest, Turn, Fails, Rests, D
 use Rattle.beam.specs.DataWords.{points}
 use Rattle.turns.specs.OneTurn.{beat, roomFor, turn}
 use Rattle.endings.specs.declared.Ending.{Ending}
-use Rattle.endings.specs.declared.Ending.the-variants.{NotRunning, InternalStop, EdgeStop}
+use Rattle.endings.specs.declared.Ending.the-variants.{NotRunning, InternalStop, EdgeStop, UnusableMode}
 use Rattle.endings.specs.declared.Halt.{Halt}
 use Rattle.endings.specs.declared.Halt.the-variants.{Goes, Ends}
 use Rattle.endings.specs.Endings.{restEnding, halted, whyNumbers, endingNumbers}
@@ -50,6 +50,7 @@ unfolding halted fenced endingNumbers
 halted-free None ending e = let z : _≡_ {A = ℕ} 0 1 = cc in absurd (omega arith)
 halted-free Internal ending e = let q : InternalStop ≡ ending = cc in rw (← q)
 halted-free Edge ending e = let q : EdgeStop ≡ ending = cc in rw (← q)
+halted-free Unused ending e = let q : UnusableMode ≡ ending = cc in rw (← q)
 
 rested-free : (resting : Resting) → fenced (restEnding resting) ≡ false
 unfolding restEnding fenced endingNumbers

@@ -10,7 +10,7 @@ use lib.Dec.{eqb, leb}
 use lib.Pow.{pow-mono}
 use borrow.Author.Tests.{leb-true, eqb-true}
 use Rattle.words.specs.Words.{pick}
-use Rattle.words.proofs.Laws.{pick-case}
+use Rattle.words.proofs.Laws.{pick-case, both}
 use Rattle.addresses.specs.Addresses.{addressAt, pointerAt, addressIn}
 use Rattle.registers.specs.declared.Base.{Base}
 use Rattle.registers.specs.declared.Motion.the-variants.{Nothing}
@@ -18,11 +18,11 @@ use Rattle.registers.specs.declared.Registers.{Registers}
 use Rattle.registers.specs.Registers.{inRange}
 use Rattle.registers.specs.Good.{Good}
 use Rattle.registers.proofs.InRange.{good, formed}
-use Rattle.registers.proofs.Setting.{address-set, pointer-set, mode-set, buttons-set, conditions-set, held-set}
-use Rattle.operations.specs.HostOperations.{started, pointed, conditioned, resume, cleared}
+use Rattle.registers.proofs.Setting.{address-set, pointer-set, mode-set, buttons-set, conditions-set, starting-set, held-set}
+use Rattle.operations.specs.HostOperations.{started, pointed, conditioned, resume, cleared, generated}
 use Rattle.inputs.specs.HostOperations.{pressed, groupCleared}
 use Rattle.host.specs.declared.Operated.{Operated}
-use Rattle.host.specs.HostOperations.{known, limit, withMotion, registersAfter, done, operate, KeepsInRange}
+use Rattle.host.specs.HostOperations.{known, limit, taken, withMotion, registersAfter, done, operate, KeepsInRange}
 
 module _ (r : Registers) (g : Good r) where
   started-good : (operand : ℕ) → Good (withMotion (started (r .base) (addressAt operand)) Nothing)
@@ -64,6 +64,9 @@ module _ (r : Registers) (g : Good r) where
         motion = g .motion;
       }
 
+  generated-good : (operand : ℕ) → Good (withMotion (generated (r .base) operand) (r .motion))
+  generated-good operand = record { base = starting-set (g .base) (omega arith); motion = g .motion }
+
   after-good : (operation operand : ℕ) → operand ≤ limit operation → Good (registersAfter r operation operand)
   unfolding registersAfter
   after-good o w h =
@@ -79,13 +82,14 @@ module _ (r : Registers) (g : Good r) where
       (λ _. pick-case Good (eqb o 10) (λ _. record { base = g .base; motion = g .motion })
       (λ _. pick-case Good (eqb o 11) (λ _. record { base = g .base; motion = g .motion })
       (λ _. pick-case Good (eqb o 12) (λ _. record { base = g .base; motion = g .motion })
-      (λ _. pick-case Good (eqb o 24) (λ _. record { base = g .base; motion = g .motion }) (λ _. g)))))))))))))
+      (λ _. pick-case Good (eqb o 24) (λ _. record { base = g .base; motion = g .motion })
+      (λ _. pick-case Good (eqb o 30) (λ _. generated-good w) (λ _. g))))))))))))))
 
 pub keeps : KeepsInRange
-unfolding operate done
+unfolding operate done taken
 keeps r o w h =
     let g = good r h in
     pick-case (λ (q : Operated). inRange (q .registers) ≡ true) (inRange r)
     (λ _. pick-case (λ (q : Operated). inRange (q .registers) ≡ true) (known o)
-    (λ _. pick-case (λ (q : Operated). inRange (q .registers) ≡ true) (leb w (limit o))
-    (λ e. formed (registersAfter r o w) (after-good r g o w (leb-true _ _ e))) (λ _. h)) (λ _. h)) (λ _. h)
+    (λ _. pick-case (λ (q : Operated). inRange (q .registers) ≡ true) (taken o w)
+    (λ e. formed (registersAfter r o w) (after-good r g o w (leb-true _ _ (both (leb w (limit o)) _ e .0)))) (λ _. h)) (λ _. h)) (λ _. h)

@@ -1,6 +1,6 @@
 // Host operations: any registers, any operation number and any operand, refused or done. Memory and points are not among the parameters.
 ghost use mathlib.Core.Path.{_≡_};
-ghost use Rattle.host.specs.HostOperations.{known, limit, withMotion, registersAfter, reading, refused, done, operate, numbered, KeepsInRange};
+ghost use Rattle.host.specs.HostOperations.{known, limit, taken, withMotion, registersAfter, reading, refused, done, operate, numbered, KeepsInRange};
 use addresses::DisplayAddress;
 use addresses::PushdownPointer;
 use answers::Numbers;
@@ -23,7 +23,9 @@ pub struct Operated {
 fn known(operation: u32) -> bool
     ensures { λ r. ⌜ r ≡ known operation ⌝ }
 {
-    (1 <= operation) & (operation <= 12) | (20 <= operation) & (operation <= 26)
+    (1 <= operation) & (operation <= 12)
+        | (20 <= operation) & (operation <= 26)
+        | (30 <= operation) & (operation <= 31)
 }
 
 // The largest operand that an operation takes.
@@ -36,8 +38,16 @@ fn limit(operation: u32) -> u32
         3 => 4095,
         8 => 11,
         9 => 1,
+        30 => 447,
         _ => 0,
     }
+}
+
+// Whether an operation takes an operand: 30 has one more bit that is no register's, bit 5.
+fn taken(operation: u32, operand: u32) -> bool
+    ensures { λ r. ⌜ r ≡ taken operation operand ⌝ }
+{
+    (operand <= limit(operation)) & !((operation == 30) & (operand / 64 % 2 == 1))
 }
 
 // The registers of a base and a motion.
@@ -70,6 +80,7 @@ fn registers_after(r: Registers, operation: u32, operand: u16) -> Registers
         11 => with_motion(inputs::interrupted(b, false), m),
         12 => with_motion(inputs::idled(b), m),
         24 => with_motion(inputs::hits_read(b), m),
+        30 => with_motion(operations::generated(b, operand), m),
         _ => r,
     }
 }
@@ -88,6 +99,7 @@ fn reading(r: Registers, operation: u32) -> u16
         24 => status::status_one(b),
         25 => status::status_two(b, m),
         26 => b.buttons,
+        31 => status::generator_word(b, m),
         _ => 0,
     }
 }
@@ -118,7 +130,7 @@ pub fn operate(r: Registers, operation: u32, operand: u32) -> Operated
 {
     if registers::in_range(r) {
         if known(operation) {
-            if operand <= limit(operation) {
+            if taken(operation, operand) {
                 done(r, operation, (operand % 65536) as u16)
             } else {
                 refused(r, 6)

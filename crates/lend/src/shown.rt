@@ -61,28 +61,63 @@ fn write_names(names: &[u8], row: &[u16], first: usize) {
     }
 }
 
+// Writes the numbers of a line, which stand behind a place of a row.
+fn write_line(row: &[u16], before: usize) {
+    write_names(
+        b"line, minus y=line, minus x=line, magnitude of y=line, magnitude of x=line, moves=line, moves made=line, lit=line, escape=line, last word#",
+        row,
+        before % 64 + 1,
+    );
+}
+
+fn write_bytes(row: &[u16], before: usize) {
+    write_names(
+        b"bytes, word#bytes, right byte=bytes, moves left=bytes, last word#",
+        row,
+        before % 64 + 1,
+    );
+}
+
+// Writes what an unfinished character waits for, by its stage.
+fn write_stage(row: &[u16], stage: u16) {
+    if stage == 1 {
+        write_names(
+            b"routine, short vectors=routine, next word#",
+            row,
+            numbers::STAGE + 1,
+        );
+    }
+    if stage == 2 {
+        write_bytes(row, numbers::STAGE);
+    }
+    if stage == 3 {
+        write_line(row, numbers::STAGE);
+    }
+}
+
 // Writes every register by its name, and the motion that is under way.
 pub(crate) fn write_registers(r: Registers) {
     let row = numbers::row_of(r);
     write_names(
-        b"display address#pushdown pointer#x=y=data state=mode=scale=intensity=pen enable=pen hold=pen sense=blink=idle=buttons#hit flag of bank 1=hit flag of bank 2=internal stop flag=external stop flag=vertical edge flag=horizontal edge flag=pen flag=manual interrupt flag=initial conditions#running=stop request=word held=held word#kind of motion=",
+        b"display address#pushdown pointer#x=y=data state=mode=scale=intensity=pen enable=pen hold=pen sense=blink=idle=buttons#hit flag of bank 1=hit flag of bank 2=internal stop flag=external stop flag=vertical edge flag=horizontal edge flag=pen flag=manual interrupt flag=initial conditions#running=stop request=word held=held word#case=seven-bit codes=starting address register#kind of motion=",
         &row,
         numbers::ADDRESS,
     );
     let kind = row[numbers::KIND];
+    let stage = row[numbers::STAGE];
     if kind == 1 {
-        write_names(
-            b"line, minus y=line, minus x=line, magnitude of y=line, magnitude of x=line, moves=line, moves made=line, lit=line, escape=line, last word#",
-            &row,
-            numbers::KIND + 1,
-        );
+        write_line(&row, numbers::KIND);
     }
     if kind == 2 {
+        write_bytes(&row, numbers::KIND);
+    }
+    if kind == 3 {
         write_names(
-            b"bytes, word#bytes, right byte=bytes, moves left=bytes, last word#",
+            b"character, word#character, seven bits=character, right=stage of the character=",
             &row,
             numbers::KIND + 1,
         );
+        write_stage(&row, stage);
     }
 }
 

@@ -7,8 +7,10 @@ use arguments::Asked;
 use endings::Ending;
 use libc::STDOUT_FILENO;
 use loan::Loan;
+use registers::CharacterMotion;
 use registers::Motion;
 use registers::Registers;
+use registers::Stage;
 use source::Source;
 
 // A beat is made by a run of one beat, with room for one point or for none.
@@ -27,21 +29,40 @@ fn make(r: Registers, l: Loan, memory: &mut Memory, points: &mut [u64]) -> Made 
     }
 }
 
-// What a line shows of the registers: where the display stands, whether a move is under way, how a word is read, and the beam.
+// What a beat takes up: the words at the display address, no word for a move, or the word that an unfinished character fetches.
+enum Takes {
+    Words,
+    Move,
+    Table(DisplayAddress),
+    Routine(DisplayAddress),
+}
+
+// What a line shows of the registers: where the display stands, what the beat takes up, how a word is read, and the beam.
 struct View {
     address: DisplayAddress,
-    moving: bool,
+    takes: Takes,
     datastate: bool,
     mode: u8,
     x: u16,
     y: u16,
 }
 
-fn is_moving(motion: Motion) -> bool {
+fn character_takes(c: CharacterMotion, starting: u8, upper: bool) -> Takes {
+    let stage = c.stage;
+    match stage {
+        Stage::Table => Takes::Table(characters::table_address(c, starting, upper)),
+        Stage::Routine(_, next) => Takes::Routine(next),
+        Stage::Increments(_, _) => Takes::Move,
+        Stage::Short(_, _) => Takes::Move,
+    }
+}
+
+fn taken_up(motion: Motion, starting: u8, upper: bool) -> Takes {
     match motion {
-        Motion::Nothing => false,
-        Motion::Line(_, _) => true,
-        Motion::Bytes(_, _) => true,
+        Motion::Nothing => Takes::Words,
+        Motion::Line(_, _) => Takes::Move,
+        Motion::Bytes(_, _) => Takes::Move,
+        Motion::Character(c) => character_takes(c, starting, upper),
     }
 }
 
@@ -50,7 +71,7 @@ fn seen(r: Registers) -> View {
     let address = r.base.address;
     View {
         address,
-        moving: is_moving(motion),
+        takes: taken_up(motion, r.base.starting, r.base.upper),
         datastate: r.base.datastate,
         mode: r.base.mode,
         x: r.base.x,
@@ -72,11 +93,8 @@ fn word_at(memory: &Memory, address: DisplayAddress) -> u16 {
     memory[at]
 }
 
-// The words that a beat takes up at the display address.
-fn put_words(v: View, memory: &Memory, line: &mut [u8], place: usize) -> usize {
-    if v.moving {
-        return text::put_all(b"a move", line, place);
-    }
+// The words of a command at the display address.
+fn put_command(v: View, memory: &Memory, line: &mut [u8], place: usize) -> usize {
     let address = v.address;
     let word = word_at(memory, address);
     let first = text::put_word(word, line, place);
@@ -85,6 +103,30 @@ fn put_words(v: View, memory: &Memory, line: &mut [u8], place: usize) -> usize {
         text::put_word(word_at(memory, address.after(1)), line, gap)
     } else {
         first
+    }
+}
+
+// A word that an unfinished character fetches, with its address.
+fn put_fetched(address: DisplayAddress, memory: &Memory, line: &mut [u8], place: usize) -> usize {
+    let addressed = text::put_address(address.number(), line, place);
+    let gap = text::put(b' ', line, addressed);
+    text::put_word(word_at(memory, address), line, gap)
+}
+
+// The words that a beat takes up.
+fn put_words(v: View, memory: &Memory, line: &mut [u8], place: usize) -> usize {
+    let takes = v.takes;
+    match takes {
+        Takes::Words => put_command(v, memory, line, place),
+        Takes::Move => text::put_all(b"a move", line, place),
+        Takes::Table(at) => {
+            let named = text::put_all(b"table word ", line, place);
+            put_fetched(at, memory, line, named)
+        }
+        Takes::Routine(at) => {
+            let named = text::put_all(b"routine word ", line, place);
+            put_fetched(at, memory, line, named)
+        }
     }
 }
 

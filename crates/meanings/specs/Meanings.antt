@@ -36,7 +36,7 @@ meaning BudgetSpent points vertical horizontal = bytes "no stop word was met"
 meaning InternalStop points vertical horizontal = bytes "a stop word"
 meaning ExternalStop points vertical horizontal = bytes "the host asked it to stop"
 meaning EdgeStop points vertical horizontal = bytes "the beam left the screen, " ++ edges vertical horizontal
-meaning UnusableMode points vertical horizontal = bytes "data in mode 5 or 7, which cannot be used"
+meaning UnusableMode points vertical horizontal = bytes "data in mode 7 or an unused control character, which cannot be used"
 meaning (Failed why) points vertical horizontal = failure why points
 
 -- " at 07100": the word that the fence stopped, if the run ended there (02, No. 1)

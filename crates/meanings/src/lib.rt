@@ -82,7 +82,11 @@ fn put_meaning(
         Ending::ExternalStop => text::put_all(b"the host asked it to stop", text, place),
         Ending::EdgeStop => put_edge_stop(vertical, horizontal, text, place),
         Ending::UnusableMode => {
-            text::put_all(b"data in mode 5 or 7, which cannot be used", text, place)
+            text::put_all(
+                b"data in mode 7 or an unused control character, which cannot be used",
+                text,
+                place,
+            )
         }
         Ending::Failed(why) => put_failure(why, points, text, place),
     }

@@ -11,7 +11,7 @@ use lib.Seq.{drop-cons}
 use borrow.Author.Tests.{leb-true}
 use mir.Val.{boolByte}
 use Rattle.words.proofs.Laws.{both}
-use Rattle.motion_numbers.specs.MotionNumbers.{at, on, flag, tested}
+use Rattle.motion_numbers.specs.MotionNumbers.{at, on, flag, tested, flagsFit}
 
 pub flag-back : (b : Bool) → eqb (boolByte b) 1 ≡ b
 flag-back true = refl
@@ -41,7 +41,11 @@ each test Says says (place ∷ places) before h =
     (two .0, (says place (two .1), rest .1))
 
 module _ (row : List ℕ) where
-  pub flags-kept : (places : List ℕ) → tested (flag row) true places ≡ true → Each (λ place. boolByte (on row place) ≡ at row place) places
+  -- flags are written as they were read
+  abbrev pub Written : List ℕ → Type 0
+  Written = Each (λ place. boolByte (on row place) ≡ at row place)
+
+  pub flags-kept : (places : List ℕ) → flagsFit row places ≡ true → Written places
   flags-kept places h = each (flag row) _ (λ place. flag-kept (at row place)) places true h .1
 
   -- so many numbers of the row, from a place on

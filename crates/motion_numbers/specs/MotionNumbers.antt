@@ -5,76 +5,115 @@ use mathlib.Core.Bool.{Bool, true, false, _&&_}
 use mathlib.Core.List.{List, [], _∷_, _++_}
 use lib.Dec.{leb, eqb}
 use lib.ListN.{length, getD, take, replicate}
+use lib.Seq.{sets}
 use mir.Val.{boolByte}
 use Rattle.words.specs.Words.{pick}
+use Rattle.addresses.specs.declared.DisplayAddress.{DisplayAddress}
 use Rattle.addresses.specs.Addresses.{address}
 use Rattle.registers.specs.declared.LineMotion.{LineMotion}
 use Rattle.registers.specs.declared.ByteMotion.{ByteMotion}
+use Rattle.registers.specs.declared.Stage.{Stage}
+use Rattle.registers.specs.declared.Stage.the-variants.{Table, Routine, Increments, Short}
+use Rattle.registers.specs.declared.CharacterMotion.{CharacterMotion}
 use Rattle.registers.specs.declared.Motion.{Motion}
-use Rattle.registers.specs.declared.Motion.the-variants.{Nothing, Line, Bytes}
+use Rattle.registers.specs.declared.Motion.the-variants.{Nothing, Line, Bytes, Character}
 
 -- THE PLACES, from 0
 
 -- how many a row has
 abbrev pub ROW : ℕ
-ROW = 37
+ROW = 44
 
--- the kind of motion: 0 nothing, 1 a line, 2 bytes
+-- the kind of motion: 0 nothing, 1 a line, 2 bytes, 3 a character
 abbrev pub KIND : ℕ
-KIND = 27
+KIND = 30
 
--- the numbers of a line
+-- the numbers of a line, counted from the number before them: that is the kind, or of a routine word the stage
 abbrev pub LINE-MINUS-Y : ℕ
-LINE-MINUS-Y = KIND + 1
+LINE-MINUS-Y = 1
 
 abbrev pub LINE-MINUS-X : ℕ
-LINE-MINUS-X = KIND + 2
+LINE-MINUS-X = 2
 
 abbrev pub LINE-MAGNITUDE-Y : ℕ
-LINE-MAGNITUDE-Y = KIND + 3
+LINE-MAGNITUDE-Y = 3
 
 abbrev pub LINE-MAGNITUDE-X : ℕ
-LINE-MAGNITUDE-X = KIND + 4
+LINE-MAGNITUDE-X = 4
 
 abbrev pub LINE-MOVES : ℕ
-LINE-MOVES = KIND + 5
+LINE-MOVES = 5
 
 abbrev pub LINE-DONE : ℕ
-LINE-DONE = KIND + 6
+LINE-DONE = 6
 
 abbrev pub LINE-LIT : ℕ
-LINE-LIT = KIND + 7
+LINE-LIT = 7
 
 abbrev pub LINE-ESCAPE : ℕ
-LINE-ESCAPE = KIND + 8
+LINE-ESCAPE = 8
 
 abbrev pub LINE-LAST-WORD : ℕ
-LINE-LAST-WORD = KIND + 9
+LINE-LAST-WORD = 9
 
--- the numbers of bytes
+-- the numbers of bytes, counted so too
 abbrev pub BYTES-WORD : ℕ
-BYTES-WORD = KIND + 1
+BYTES-WORD = 1
 
 abbrev pub BYTES-SIDE : ℕ
-BYTES-SIDE = KIND + 2
+BYTES-SIDE = 2
 
 abbrev pub BYTES-MOVES-LEFT : ℕ
-BYTES-MOVES-LEFT = KIND + 3
+BYTES-MOVES-LEFT = 3
 
 abbrev pub BYTES-LAST-WORD : ℕ
-BYTES-LAST-WORD = KIND + 4
+BYTES-LAST-WORD = 4
+
+-- the numbers of a character; last its stage: 0 the table word, 1 a routine word, 2 increments, 3 short vectors
+abbrev pub CHARACTER-WORD : ℕ
+CHARACTER-WORD = KIND + 1
+
+abbrev pub CHARACTER-SIZE : ℕ
+CHARACTER-SIZE = KIND + 2
+
+abbrev pub CHARACTER-SIDE : ℕ
+CHARACTER-SIDE = KIND + 3
+
+abbrev pub STAGE : ℕ
+STAGE = KIND + 4
+
+-- the numbers of a routine: its kind, and the address of the next word
+abbrev pub ROUTINE-KIND : ℕ
+ROUTINE-KIND = STAGE + 1
+
+abbrev pub ROUTINE-NEXT : ℕ
+ROUTINE-NEXT = STAGE + 2
 
 -- the two signs of a line, lit and escape
-abbrev pub lineFlags : List ℕ
-lineFlags = LINE-MINUS-Y ∷ LINE-MINUS-X ∷ LINE-LIT ∷ LINE-ESCAPE ∷ []
+abbrev pub lineFlags : ℕ → List ℕ
+lineFlags before = (before + LINE-MINUS-Y) ∷ (before + LINE-MINUS-X) ∷ (before + LINE-LIT) ∷ (before + LINE-ESCAPE) ∷ []
 
 -- the side of bytes
-abbrev pub bytesFlags : List ℕ
-bytesFlags = BYTES-SIDE ∷ []
+abbrev pub bytesFlags : ℕ → List ℕ
+bytesFlags before = (before + BYTES-SIDE) ∷ []
 
--- how many numbers of a row a kind of motion uses: a line has nine of its own, bytes have four
-unfoldable pub used : ℕ → ℕ
-used kind = pick (eqb kind 1) (LINE-LAST-WORD + 1) (pick (eqb kind 2) (BYTES-LAST-WORD + 1) (KIND + 1))
+-- the kind of a routine
+abbrev pub routineFlags : List ℕ
+routineFlags = ROUTINE-KIND ∷ []
+
+-- the size and the side of a character
+abbrev pub characterFlags : List ℕ
+characterFlags = CHARACTER-SIZE ∷ CHARACTER-SIDE ∷ []
+
+-- how many numbers of a row a stage uses: a routine has two of its own, bytes have four, a line nine
+unfoldable pub usedAt : ℕ → ℕ
+usedAt stage =
+    pick (eqb stage 1) (ROUTINE-NEXT + 1) (pick (eqb stage 2) (STAGE + BYTES-LAST-WORD + 1) (pick (eqb stage 3) (STAGE + LINE-LAST-WORD + 1) (STAGE + 1)))
+
+-- how many a kind of motion uses, with its stage
+unfoldable pub used : ℕ → ℕ → ℕ
+used kind stage =
+    pick (eqb kind 1) (KIND + LINE-LAST-WORD + 1) (pick (eqb kind 2) (KIND + BYTES-LAST-WORD + 1) (pick (eqb kind 3) (usedAt stage) (KIND + 1)))
 
 -- WHAT STANDS IN A ROW
 
@@ -90,9 +129,9 @@ on row place = eqb (at row place) 1
 abbrev pub zeros : ℕ → List ℕ
 zeros place = replicate (ROW - place) 0
 
--- a row with 0 on every place that its kind of motion does not use
+-- a row with 0 on every place that its motion does not use
 abbrev pub kept : List ℕ → List ℕ
-kept row = take (used (at row KIND)) row ++ zeros (used (at row KIND))
+kept row = take (used (at row KIND) (at row STAGE)) row ++ zeros (used (at row KIND) (at row STAGE))
 
 -- WHICH ROWS FIT: every number is one that the motion can hold; what is not named here may be any number of 16 bits
 
@@ -105,51 +144,69 @@ abbrev pub tested : (ℕ → Bool) → Bool → List ℕ → Bool
 tested test before [] = before
 tested test before (place ∷ places) = tested test (before && test place) places
 
-abbrev pub lineFits : List ℕ → Bool
-lineFits row = tested (flag row) true lineFlags
+-- flags are 0 or 1
+abbrev pub flagsFit : List ℕ → List ℕ → Bool
+flagsFit row places = tested (flag row) true places
 
-abbrev pub bytesFit : List ℕ → Bool
-bytesFit row = tested (flag row) true bytesFlags
+-- the stage is one of the four, and its flags fit
+unfoldable pub stageFits : List ℕ → Bool
+stageFits row =
+    pick (eqb (at row STAGE) 0) true
+    (pick (eqb (at row STAGE) 1) (flagsFit row routineFlags)
+    (pick (eqb (at row STAGE) 2) (flagsFit row (bytesFlags STAGE))
+    (pick (eqb (at row STAGE) 3) (flagsFit row (lineFlags STAGE)) false)))
 
--- the kind of motion is one of the three, and the flags of a motion of that kind are 0 or 1
+-- the kind is one of the four, and the flags of a motion of that kind fit
 unfoldable pub motionFits : List ℕ → Bool
 motionFits row =
-    pick (eqb (at row KIND) 0) true (pick (eqb (at row KIND) 1) (lineFits row) (pick (eqb (at row KIND) 2) (bytesFit row) false))
+    pick (eqb (at row KIND) 0) true
+    (pick (eqb (at row KIND) 1) (flagsFit row (lineFlags KIND))
+    (pick (eqb (at row KIND) 2) (flagsFit row (bytesFlags KIND))
+    (pick (eqb (at row KIND) 3) (flagsFit row characterFlags && stageFits row) false)))
 
 -- THE MOTION OF A ROW
 
 -- a line's numbers: signs and magnitudes, y first; moves and done; lit and escape
-abbrev pub lineOf : List ℕ → LineMotion
-lineOf row =
+abbrev pub lineOf : List ℕ → ℕ → LineMotion
+lineOf row before =
     record {
-      magx = at row LINE-MAGNITUDE-X;
-      magy = at row LINE-MAGNITUDE-Y;
-      minusx = on row LINE-MINUS-X;
-      minusy = on row LINE-MINUS-Y;
-      lit = on row LINE-LIT;
-      escape = on row LINE-ESCAPE;
-      moves = at row LINE-MOVES;
-      done = at row LINE-DONE;
+      magx = at row (before + LINE-MAGNITUDE-X);
+      magy = at row (before + LINE-MAGNITUDE-Y);
+      minusx = on row (before + LINE-MINUS-X);
+      minusy = on row (before + LINE-MINUS-Y);
+      lit = on row (before + LINE-LIT);
+      escape = on row (before + LINE-ESCAPE);
+      moves = at row (before + LINE-MOVES);
+      done = at row (before + LINE-DONE);
     }
 
 -- the numbers of bytes: word, side, moves left
-abbrev pub bytesOf : List ℕ → ByteMotion
-bytesOf row = record { word = at row BYTES-WORD; moves = at row BYTES-MOVES-LEFT; right = on row BYTES-SIDE }
+abbrev pub bytesOf : List ℕ → ℕ → ByteMotion
+bytesOf row before = record { word = at row (before + BYTES-WORD); moves = at row (before + BYTES-MOVES-LEFT); right = on row (before + BYTES-SIDE) }
 
--- by its kind; last of its numbers is the address of its command's last word
+-- last of the numbers of increments and of short vectors is the address of their word
+unfoldable pub stageOf : List ℕ → Stage
+stageOf row =
+    pick (eqb (at row STAGE) 1) (Routine (on row ROUTINE-KIND) (address (at row ROUTINE-NEXT)))
+    (pick (eqb (at row STAGE) 2) (Increments (address (at row (STAGE + BYTES-LAST-WORD))) (bytesOf row STAGE))
+    (pick (eqb (at row STAGE) 3) (Short (address (at row (STAGE + LINE-LAST-WORD))) (lineOf row STAGE)) Table))
+
+-- a character's numbers: word, size and side, and its stage
+abbrev pub characterOf : List ℕ → CharacterMotion
+characterOf row = record { word = at row CHARACTER-WORD; seven = on row CHARACTER-SIZE; right = on row CHARACTER-SIDE; stage = stageOf row }
+
+-- by its kind; last of the numbers of a line and of bytes is the address of their command's last word
 unfoldable pub motionOf : List ℕ → Motion
 motionOf row =
-    pick (eqb (at row KIND) 1) (Line (address (at row LINE-LAST-WORD)) (lineOf row))
-    (pick (eqb (at row KIND) 2) (Bytes (address (at row BYTES-LAST-WORD)) (bytesOf row)) Nothing)
+    pick (eqb (at row KIND) 1) (Line (address (at row (KIND + LINE-LAST-WORD))) (lineOf row KIND))
+    (pick (eqb (at row KIND) 2) (Bytes (address (at row (KIND + BYTES-LAST-WORD))) (bytesOf row KIND))
+    (pick (eqb (at row KIND) 3) (Character (characterOf row)) Nothing))
 
 -- THE NUMBERS OF A MOTION
 
--- the kind, and the motion's own
-unfoldable pub motionNumbers : Motion → List ℕ
-motionNumbers Nothing = 0 ∷ []
-motionNumbers (Line lastword l) =
-    1
-    ∷ boolByte (l .minusy)
+abbrev pub lineNumbers : DisplayAddress → LineMotion → List ℕ
+lineNumbers lastword l =
+    boolByte (l .minusy)
     ∷ boolByte (l .minusx)
     ∷ l .magy
     ∷ l .magx
@@ -159,7 +216,27 @@ motionNumbers (Line lastword l) =
     ∷ boolByte (l .escape)
     ∷ lastword .0
     ∷ []
-motionNumbers (Bytes lastword t) = 2 ∷ t .word ∷ boolByte (t .right) ∷ t .moves ∷ lastword .0 ∷ []
+
+abbrev pub bytesNumbers : DisplayAddress → ByteMotion → List ℕ
+bytesNumbers lastword t = t .word ∷ boolByte (t .right) ∷ t .moves ∷ lastword .0 ∷ []
+
+-- the stage, and its own
+unfoldable pub stageNumbers : Stage → List ℕ
+stageNumbers Table = 0 ∷ []
+stageNumbers (Routine short next) = 1 ∷ boolByte short ∷ next .0 ∷ []
+stageNumbers (Increments from t) = 2 ∷ bytesNumbers from t
+stageNumbers (Short from l) = 3 ∷ lineNumbers from l
+
+-- the kind, and the motion's own
+unfoldable pub motionNumbers : Motion → List ℕ
+motionNumbers Nothing = 0 ∷ []
+motionNumbers (Line lastword l) = 1 ∷ lineNumbers lastword l
+motionNumbers (Bytes lastword t) = 2 ∷ bytesNumbers lastword t
+motionNumbers (Character c) = 3 ∷ c .word ∷ boolByte (c .seven) ∷ boolByte (c .right) ∷ stageNumbers (c .stage)
+
+-- a row into which these are laid: its places from the kind on, as many as the numbers
+unfoldable pub laid : Motion → List ℕ → List ℕ
+laid m row = sets row KIND (motionNumbers m)
 
 -- the places of a row from the kind on: these numbers, and 0 for what is left
 abbrev pub motionRow : Motion → List ℕ

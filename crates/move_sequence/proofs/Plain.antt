@@ -24,7 +24,7 @@ use Rattle.moves.specs.declared.Moving.the-variants.{Going}
 use Rattle.beam.specs.declared.Stop.the-variants.{None}
 use Rattle.beam.specs.DataWords.{beamAt, litAt, points, arrived}
 use Rattle.moves.specs.DataWords.{nextMove, movedX, movedY, displaced}
-use Rattle.moves.proofs.Kept.{displaced-good}
+use Rattle.moves.proofs.KeptCharacters.{displaced-good}
 use Rattle.move_sequence.specs.declared.Sequence.{Sequence}
 use Rattle.move_sequence.specs.PlainMoves.{goesOn, plain, leaves, stays, onMove, sequence}
 

@@ -9,21 +9,22 @@ use lib.Seq.{sets}
 use Rattle.words.specs.Words.{pick}
 use Rattle.registers.specs.declared.Base.{Base}
 use Rattle.registers.specs.declared.Motion.{Motion}
-use Rattle.registers.specs.declared.Motion.the-variants.{Nothing, Line, Bytes}
+use Rattle.registers.specs.declared.Motion.the-variants.{Nothing, Line, Bytes, Character}
 use Rattle.registers.specs.declared.Registers.{Registers}
 use Rattle.moves.specs.declared.Move.{Move}
 use Rattle.beam.specs.declared.Outcome.{Outcome}
 use Rattle.moves.specs.declared.Moving.{Moving}
-use Rattle.moves.specs.declared.Moving.the-variants.{Still, Going}
+use Rattle.moves.specs.declared.Moving.the-variants.{Still, Going, Looks, Reads}
 use Rattle.beam.specs.DataWords.{points}
 use Rattle.moves.specs.DataWords.{nextMove, movedX, movedY, displaced}
 use Rattle.move_sequence.specs.declared.Sequence.{Sequence}
 
--- whether the same motion goes on behind a move: a line's last move ends it, or starts a vector continue over
+-- whether the same motion goes on behind a move: a line's last move ends it, or starts a vector continue over; a character's moves are left to the turn
 abbrev pub goesOn : Motion → Bool
 goesOn Nothing = false
 goesOn (Line lastword l) = ltb 0 (l .done)
 goesOn (Bytes lastword t) = true
+goesOn (Character c) = false
 
 -- a move that goes on, escapes nothing and violates nothing
 unfoldable pub plain : Base → Move → Bool
@@ -55,6 +56,8 @@ follow go ps place c = go (c .registers) (sets ps place (points (c .lit))) (plac
 
 abbrev pub onMove : Go → ℕ → Registers → List ℕ → ℕ → Moving → SequenceLeft
 onMove go n r ps place Still = stays n r ps place
+onMove go n r ps place (Looks c) = stays n r ps place
+onMove go n r ps place (Reads c short at) = stays n r ps place
 onMove go n r ps place (Going v) =
     pick (plain (r .base) v && leb (place + length (points (displaced (r .base) v .lit))) (length ps))
     (follow go ps place (displaced (r .base) v))

@@ -1,5 +1,5 @@
--- A move beat keeps registers in range, the coordinates their 13 bits, and a motion that goes on is in range and has not escaped; and its point is made of
--- parts in range. Assumes nothing.
+-- A move of a line or of bytes keeps registers in range, the coordinates their 13 bits, and a motion that goes on is in range and has not escaped; and its point
+-- is made of parts in range. Assumes nothing.
 use Prim.Native.Nat.{ℕ, _+_, _/_, _%_, _≤_, _<_}
 use mathlib.Core.Path.{_≡_, refl}
 use mathlib.Core.Bool.{Bool, true, false, not, _&&_, _||_, and-false}
@@ -9,27 +9,24 @@ use lib.Dec.{eqb, ltb, leb}
 use borrow.Author.Tests.{ltb-true, eqb-false, lt-leb}
 use Rattle.words.proofs.Laws.{pick-case}
 use Rattle.addresses.specs.declared.DisplayAddress.{DisplayAddress}
-use Rattle.paper.specs.DataWords.{distance}
 use Rattle.paper.proofs.Moves.{moved-small}
 use Rattle.registers.specs.declared.Base.{Base}
 use Rattle.registers.specs.declared.LineMotion.{LineMotion}
 use Rattle.registers.specs.declared.ByteMotion.{ByteMotion}
 use Rattle.registers.specs.declared.Motion.{Motion}
-use Rattle.registers.specs.declared.Motion.the-variants.{Nothing, Line, Bytes}
-use Rattle.registers.specs.declared.Registers.{Registers}
+use Rattle.registers.specs.declared.Motion.the-variants.{Line, Bytes}
 use Rattle.registers.specs.Registers.{byteAt, movesAsked, escapes}
-use Rattle.registers.specs.Good.{GoodBase, GoodMotion, Good}
+use Rattle.registers.specs.Good.{GoodBase, GoodMotion}
 use Rattle.moves.specs.declared.Move.{Move}
-use Rattle.moves.specs.declared.Moving.the-variants.{Going}
 use Rattle.beam.specs.DataWords.{stillEnd}
 use Rattle.beam.proofs.Kept.{GoodOutcome, arrived-good}
-use Rattle.moves.specs.DataWords.{withDone, lineNext, lineMove, byteNext, byteMove, nextMove, displaced}
+use Rattle.moves.specs.DataWords.{withDone, lineNext, lineMove, byteNext, byteMove, displaced}
 
 -- in range after a move, where its escape has taken effect; in a vector continue it takes effect where it ends
-abbrev GoodAfter : Move → Bool → ℕ → Motion → Type 0
+abbrev pub GoodAfter : Move → Bool → ℕ → Motion → Type 0
 GoodAfter m datastate mode n = GoodMotion n (datastate && not (m .escape && not (m .continues))) mode
 
-made-good : (b : Base) (m : Move) → GoodBase b → m .lastword .0 < 32768 → GoodAfter m (b .datastate) (b .mode) (m .motion) → GoodOutcome (displaced b m)
+pub made-good : (b : Base) (m : Move) → GoodBase b → m .lastword .0 < 32768 → GoodAfter m (b .datastate) (b .mode) (m .motion) → GoodOutcome (displaced b m)
 unfolding displaced stillEnd
 made-good b m g a h =
     pick-case GoodOutcome _ (λ _. record { registers = record { base = g; motion = tt }; lit = tt })
@@ -52,7 +49,7 @@ module _ (a : DisplayAddress) (l : LineMotion) (s : ℕ) (continues datastate : 
       rw (waits (l .escape) _ continues e, h .0)
       (refl, h .1, h .2, record { magx = g .magx; magy = g .magy; larger = g .larger; some = g .some; done = less }, h .4)
 
-  line-good : GoodAfter (lineMove a l s continues) datastate mode (lineMove a l s continues .motion)
+  pub line-good : GoodAfter (lineMove a l s continues) datastate mode (lineMove a l s continues .motion)
   unfolding lineMove lineNext
   line-good =
       pick-case (GoodAfter (lineMove a l s continues) datastate mode) (ltb (l .done + 1) (l .moves))
@@ -75,36 +72,24 @@ neither false c h = (refl, h)
 neither true c h = (h, cc)
 
 module _ (a : DisplayAddress) (t : ByteMotion) (s : ℕ) (datastate : Bool) (mode : ℕ) (h : GoodMotion (Bytes a t) datastate mode) where
-  bytes-good : GoodAfter (byteMove a t s) datastate mode (byteMove a t s .motion)
+  pub bytes-good : GoodAfter (byteMove a t s) datastate mode (byteMove a t s .motion)
   unfolding byteMove byteNext
   bytes-good =
       let g = h .2 in
+      let k = g .counts in
       let byte : ℕ = byteAt (t .word) (t .right) in
       pick-case (GoodAfter (byteMove a t s) datastate mode) _
       (λ e. rw (one-escaping byte (omega (arith, ltb-true 1 (t .moves) e)), h .0)
-      (refl, h .1, record { word = g .word; some = omega (arith, ltb-true 1 (t .moves) e); asked = omega arith; reached = g .reached }, h .3))
+      (refl, h .1, record { counts = record { word = k .word; some = omega (arith, ltb-true 1 (t .moves) e); asked = omega (arith, k .asked) }; reached = g .reached }, h .3))
       (λ _. pick-case (GoodAfter (byteMove a t s) datastate mode) _ (λ _. tt)
       (λ e. let n = neither (t .right) (escapes byte) e in
-      rw (n .1, h .0) (refl, h .1, record { word = g .word; some = some-asked _; asked = le-refl _; reached = rw (n .0) at (n .1) }, h .3)))
+      rw (n .1, h .0) (refl, h .1, record { counts = record { word = k .word; some = some-asked _; asked = le-refl _ }; reached = rw (n .0) at (n .1) }, h .3)))
 
 -- the address that a move tells is the motion's
-line-told : (a : DisplayAddress) (l : LineMotion) (s : ℕ) (continues : Bool) → a .0 < 32768 → lineMove a l s continues .lastword .0 < 32768
+pub line-told : (a : DisplayAddress) (l : LineMotion) (s : ℕ) (continues : Bool) → a .0 < 32768 → lineMove a l s continues .lastword .0 < 32768
 unfolding lineMove
 line-told a l s continues h = h
 
-bytes-told : (a : DisplayAddress) (t : ByteMotion) (s : ℕ) → a .0 < 32768 → byteMove a t s .lastword .0 < 32768
+pub bytes-told : (a : DisplayAddress) (t : ByteMotion) (s : ℕ) → a .0 < 32768 → byteMove a t s .lastword .0 < 32768
 unfolding byteMove
 bytes-told a t s h = h
-
-next-good : (b : Base) (n : Motion) (m : Move) →
-    GoodBase b → GoodMotion n (b .datastate) (b .mode) → nextMove n (b .mode) (b .scale) ≡ Going m → GoodOutcome (displaced b m)
-unfolding nextMove
-next-good b Nothing m g h e = let z : _≡_ {A = ℕ} 0 1 = cc in absurd (omega arith)
-next-good b (Line a l) m g h e =
-    let q : lineMove a l (distance (b .scale)) (eqb (b .mode) 3) ≡ m = cc in rw (← q) (made-good b _ g (line-told a l _ _ (h .4)) (line-good a l _ _ _ _ h))
-next-good b (Bytes a t) m g h e =
-    let q : byteMove a t (distance (b .scale)) ≡ m = cc in rw (← q) (made-good b _ g (bytes-told a t _ (h .3)) (bytes-good a t _ _ _ h))
-
-pub displaced-good : (r : Registers) (m : Move) →
-    Good r → nextMove (r .motion) (r .base .mode) (r .base .scale) ≡ Going m → GoodOutcome (displaced (r .base) m)
-displaced-good r m g e = next-good (r .base) (r .motion) m (g .base) (g .motion) e

@@ -1,13 +1,16 @@
-// Move beats: what a line or a byte does next, and the move made.
+// Move beats: what a line, a byte or a character does next, and the move made.
 ghost use mathlib.Core.Path.{_≡_};
 ghost use Prim.Native.Nat.{_%_};
 ghost use Rattle.moves.specs.DataWords.{lineNext, lineMove, byteNext, leftward, rightward, upward, downward, byteMove, nextMove, displaced};
+ghost use Rattle.moves.specs.DataWords.{atStage, afterCharacter, afterRoutineWord, routineNext, routineMove, characterNext};
 use addresses::DisplayAddress;
 use beam::Outcome;
 use registers::Base;
 use registers::ByteMotion;
+use registers::CharacterMotion;
 use registers::LineMotion;
 use registers::Motion;
+use registers::Stage;
 
 // One move: how far each axis goes, whether a point is asked for, the motion after it and whether the command escapes with it; and the address of the command's
 // last word. A move that continues belongs to a vector continue.
@@ -23,9 +26,12 @@ pub struct Move {
     pub lastword: DisplayAddress,
 }
 
+// What the registers do next: no motion, a move, or a fetch for an unfinished character: its table word, or the word of its routine at an address.
 pub enum Moving {
     Still,
     Going(Move),
+    Looks(CharacterMotion),
+    Reads(CharacterMotion, bool, DisplayAddress),
 }
 
 // A line after one more move.
@@ -159,6 +165,94 @@ pub fn byte_move(lastword: DisplayAddress, t: ByteMotion, distance: u8) -> Move
     }
 }
 
+// A character at another stage.
+pub fn at_stage(c: CharacterMotion, stage: Stage) -> Motion
+    ensures { λ r. ⌜ r ≡ atStage c stage ⌝ }
+{
+    Motion::Character(CharacterMotion { stage, ..c })
+}
+
+// The motion behind a character: the right one behind the left one of two, or none.
+pub fn after_character(c: CharacterMotion) -> Motion
+    ensures { λ r. ⌜ r ≡ afterCharacter c ⌝ }
+{
+    if c.seven | c.right {
+        Motion::Nothing
+    } else {
+        Motion::Character(CharacterMotion {
+            right: true,
+            stage: Stage::Table,
+            ..c
+        })
+    }
+}
+
+// The motion behind a routine word: an escape ends the character, else the next word of the routine follows.
+pub fn after_routine_word(
+    c: CharacterMotion,
+    short: bool,
+    from: DisplayAddress,
+    escape: bool,
+) -> Motion
+    ensures { λ r. ⌜ r ≡ afterRoutineWord c short from escape ⌝ }
+{
+    if escape {
+        after_character(c)
+    } else {
+        at_stage(c, Stage::Routine(short, from.after(1)))
+    }
+}
+
+// The motion behind a move of a routine word: its other moves, if there are any.
+fn routine_next(
+    c: CharacterMotion,
+    short: bool,
+    from: DisplayAddress,
+    escape: bool,
+    after: Motion,
+) -> Motion
+    ensures { λ r. ⌜ r ≡ routineNext c short from escape after ⌝ }
+{
+    match after {
+        Motion::Nothing => after_routine_word(c, short, from, escape),
+        Motion::Line(lastword, l) => at_stage(c, Stage::Short(lastword, l)),
+        Motion::Bytes(lastword, t) => at_stage(c, Stage::Increments(lastword, t)),
+        Motion::Character(_) => after_routine_word(c, short, from, escape),
+    }
+}
+
+// A move of a routine word. Its escape ends the character and not the mode.
+fn routine_move(c: CharacterMotion, short: bool, m: Move) -> Move
+    ensures { λ r. ⌜ r ≡ routineMove c short m ⌝ }
+{
+    let after = m.motion;
+    let motion = routine_next(c, short, m.lastword, m.escape, after);
+    let lastword = m.lastword;
+    Move {
+        motion,
+        lastword,
+        escape: false,
+        ..m
+    }
+}
+
+// What an unfinished character does next.
+fn character_next(c: CharacterMotion, distance: u8) -> Moving
+    ensures { λ r. ⌜ r ≡ characterNext c distance (c .stage) ⌝ }
+{
+    let stage = c.stage;
+    match stage {
+        Stage::Table => Moving::Looks(c),
+        Stage::Routine(short, next) => Moving::Reads(c, short, next),
+        Stage::Increments(from, t) => {
+            Moving::Going(routine_move(c, false, byte_move(from, t, distance)))
+        }
+        Stage::Short(from, l) => {
+            Moving::Going(routine_move(c, true, line_move(from, l, distance, false)))
+        }
+    }
+}
+
 // The next move of a motion.
 pub fn next_move(m: Motion, mode: u8, scale: u8) -> Moving
     ensures { λ r. ⌜ r ≡ nextMove m mode scale ⌝ }
@@ -171,6 +265,7 @@ pub fn next_move(m: Motion, mode: u8, scale: u8) -> Moving
         Motion::Bytes(lastword, t) => {
             Moving::Going(byte_move(lastword, t, paper::distance(scale)))
         }
+        Motion::Character(c) => character_next(c, paper::distance(scale)),
     }
 }
 

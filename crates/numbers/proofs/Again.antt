@@ -13,11 +13,11 @@ use Rattle.words.specs.Words.{pick}
 use Rattle.words.proofs.Laws.{both}
 use Rattle.registers.specs.declared.Held.the-variants.{Empty, Holds}
 use Rattle.registers.specs.Registers.{inRange}
-use Rattle.motion_numbers.specs.MotionNumbers.{ROW, KIND, at, on, tested, kept, motionFits, motionOf, motionRow}
+use Rattle.motion_numbers.specs.MotionNumbers.{ROW, KIND, at, on, tested, flagsFit, kept, motionFits, motionOf, motionRow}
 use Rattle.motion_numbers.proofs.Rows.{Each, each, flags-kept, from}
 use Rattle.motion_numbers.proofs.Motions.{motion-kept}
 use Rattle.numbers.specs.Places.{HELD, HELD-WORD, flags, narrows}
-use Rattle.numbers.specs.Numbers.{narrow, flagsFit, narrowFit, heldFits, fits, heldOf, holds, heldWord, baseOf, registersOf, baseRow, rowOf, Faithful}
+use Rattle.numbers.specs.Numbers.{narrow, narrowFit, heldFits, fits, heldOf, holds, heldWord, baseOf, registersOf, baseRow, rowOf, Faithful}
 use Rattle.numbers.proofs.Back.{fitting, back, refused}
 
 -- a number of 8 bits is written as what it was read from
@@ -35,7 +35,7 @@ module _ (row : List ℕ) where
   narrows-kept : (places : List ℕ) → tested (narrow row) true places ≡ true → Each (λ place. at row place % 256 ≡ at row place) places
   narrows-kept places h = each (narrow row) _ (λ place. narrow-kept (at row place)) places true h .1
 
-  base-kept : flagsFit row ≡ true → narrowFit row ≡ true → heldFits row ≡ true → baseRow (baseOf row) ≡ from row KIND 0
+  base-kept : flagsFit row flags ≡ true → narrowFit row ≡ true → heldFits row ≡ true → baseRow (baseOf row) ≡ from row KIND 0
   unfolding heldOf
   base-kept f n h =
       let fs = flags-kept row flags f in
@@ -49,9 +49,9 @@ module _ (row : List ℕ) where
     where
       by : (t : Bool) → fits row ≡ t → rowOf (registersOf row) ≡ kept row
       by true f =
-          let three = both (flagsFit row && narrowFit row && heldFits row) (motionFits row) f in
-          let two = both (flagsFit row && narrowFit row) (heldFits row) (three .0) in
-          let one = both (flagsFit row) (narrowFit row) (two .0) in
+          let three = both (flagsFit row flags && narrowFit row && heldFits row) (motionFits row) f in
+          let two = both (flagsFit row flags && narrowFit row) (heldFits row) (three .0) in
+          let one = both (flagsFit row flags) (narrowFit row) (two .0) in
           ap rowOf (fitting row f)
           ∙ ap (λ (base : List ℕ). base ++ motionRow (motionOf row)) (base-kept (one .0) (one .1) (two .1))
           ∙ motion-kept row long (three .1)

@@ -17,10 +17,11 @@ use Rattle.registers.specs.declared.Registers.{Registers}
 use Rattle.registers.specs.Registers.{inRange, heldInRange, numbersInRange, motionInRange}
 use Rattle.registers.specs.Good.{GoodBase, Good}
 use Rattle.registers.proofs.InRange.{good}
-use Rattle.motion_numbers.specs.MotionNumbers.{motionRow}
+use Rattle.motion_numbers.specs.MotionNumbers.{flagsFit, motionRow}
 use Rattle.motion_numbers.proofs.Rows.{flag-back, flag-small}
 use Rattle.motion_numbers.proofs.Motions.{motion-fits, motion-back}
-use Rattle.numbers.specs.Numbers.{fits, narrowFit, flagsFit, heldFits, heldOf, holds, heldWord, baseOf, fitted, registersOf, baseRow, rowOf}
+use Rattle.numbers.specs.Places.{flags}
+use Rattle.numbers.specs.Numbers.{fits, narrowFit, heldFits, heldOf, holds, heldWord, baseOf, fitted, registersOf, baseRow, rowOf}
 
 -- the held word reads back from its two numbers, which fit
 held-back : (h : Held) → pick (holds h) (Holds (heldWord h)) Empty ≡ h
@@ -40,7 +41,7 @@ module _ (n : ℕ) (h : n < 256) where
   narrow-small : leb n 255 ≡ true
   narrow-small = le-leb n 255 (omega arith)
 
-flags-fit : (b : Base) (m : List ℕ) → flagsFit (baseRow b ++ m) ≡ true
+flags-fit : (b : Base) (m : List ℕ) → flagsFit (baseRow b ++ m) flags ≡ true
 flags-fit b m = simp flag-small
 
 held-fits : (b : Base) (m : List ℕ) → heldFits (baseRow b ++ m) ≡ true
@@ -48,11 +49,23 @@ held-fits b m = simp flag-back (held-fit (b .held))
 
 module _ (b : Base) (m : List ℕ) (g : GoodBase b) where
   narrow-fit : narrowFit (baseRow b ++ m) ≡ true
-  narrow-fit = simp (narrow-small (b .mode) (omega (arith, g .mode)), narrow-small (b .scale) (omega (arith, g .scale)), narrow-small (b .intensity) (omega (arith, g .intensity)))
+  narrow-fit = simp (
+    narrow-small (b .mode) (omega (arith, g .mode)),
+    narrow-small (b .scale) (omega (arith, g .scale)),
+    narrow-small (b .intensity) (omega (arith, g .intensity)),
+    narrow-small (b .starting) (omega (arith, g .starting)),
+  )
 
   base-back : baseOf (baseRow b ++ m) ≡ b
   unfolding heldOf
-  base-back = simp (flag-back, held-back, narrow-back (b .mode) (omega (arith, g .mode)), narrow-back (b .scale) (omega (arith, g .scale)), narrow-back (b .intensity) (omega (arith, g .intensity)))
+  base-back = simp (
+    flag-back,
+    held-back,
+    narrow-back (b .mode) (omega (arith, g .mode)),
+    narrow-back (b .scale) (omega (arith, g .scale)),
+    narrow-back (b .intensity) (omega (arith, g .intensity)),
+    narrow-back (b .starting) (omega (arith, g .starting)),
+  )
 
 row-fits : (r : Registers) → Good r → fits (rowOf r) ≡ true
 unfolding fits rowOf

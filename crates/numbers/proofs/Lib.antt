@@ -1,2 +1,3 @@
+pub mod Laid
 mod Back
 mod Again

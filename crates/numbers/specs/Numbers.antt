@@ -16,8 +16,8 @@ use Rattle.registers.specs.declared.Motion.the-variants.{Nothing}
 use Rattle.registers.specs.declared.Registers.{Registers}
 use Rattle.registers.specs.Registers.{inRange, freshBase}
 use Rattle.registers.specs.With.{withMode}
-use Rattle.motion_numbers.specs.MotionNumbers.{ROW, at, on, flag, tested, kept, motionFits, motionOf, motionRow}
-use Rattle.numbers.specs.Places.{ADDRESS, POINTER, X, Y, STATE, MODE, SCALE, INTENSITY, PEN-ENABLE, PEN-HOLD, PEN-SENSE, BLINK, IDLE, BUTTONS, HIT-1, HIT-2, INTERNAL-STOP-FLAG, EXTERNAL-STOP-FLAG, VERTICAL-EDGE-FLAG, HORIZONTAL-EDGE-FLAG, PEN-FLAG, MANUAL-INTERRUPT-FLAG, CONDITIONS, RUNNING, STOP-REQUEST, HELD, HELD-WORD}
+use Rattle.motion_numbers.specs.MotionNumbers.{ROW, KIND, at, on, zeros, tested, flagsFit, kept, motionFits, motionOf, motionRow}
+use Rattle.numbers.specs.Places.{ADDRESS, POINTER, X, Y, STATE, MODE, SCALE, INTENSITY, PEN-ENABLE, PEN-HOLD, PEN-SENSE, BLINK, IDLE, BUTTONS, HIT-1, HIT-2, INTERNAL-STOP-FLAG, EXTERNAL-STOP-FLAG, VERTICAL-EDGE-FLAG, HORIZONTAL-EDGE-FLAG, PEN-FLAG, MANUAL-INTERRUPT-FLAG, CONDITIONS, RUNNING, STOP-REQUEST, HELD, HELD-WORD, CASE, CODE-SIZE, STARTING-ADDRESS}
 use Rattle.numbers.specs.Places.{flags, narrows}
 
 -- WHICH ROWS FIT: every number is one that its register can hold; what is not named here may be any number of 16 bits
@@ -26,11 +26,7 @@ use Rattle.numbers.specs.Places.{flags, narrows}
 abbrev pub narrow : List ℕ → ℕ → Bool
 narrow row place = leb (at row place) 255
 
--- the state and the flags of the registers
-abbrev pub flagsFit : List ℕ → Bool
-flagsFit row = tested (flag row) true flags
-
--- mode, scale and intensity
+-- mode, scale, intensity and the starting address register
 abbrev pub narrowFit : List ℕ → Bool
 narrowFit row = tested (narrow row) true narrows
 
@@ -40,7 +36,7 @@ heldFits row = on row HELD || eqb (at row HELD-WORD) 0
 
 -- the whole row
 unfoldable pub fits : List ℕ → Bool
-fits row = flagsFit row && narrowFit row && heldFits row && motionFits row
+fits row = flagsFit row flags && narrowFit row && heldFits row && motionFits row
 
 -- THE REGISTERS OF A ROW
 
@@ -48,7 +44,7 @@ fits row = flagsFit row && narrowFit row && heldFits row && motionFits row
 unfoldable pub heldOf : List ℕ → Held
 heldOf row = pick (on row HELD) (Holds (at row HELD-WORD)) Empty
 
--- mode, scale and intensity by their low 8 bits, which is all that a row that fits has there
+-- what has 8 bits by its low ones, which is all that a row that fits has there
 abbrev pub baseOf : List ℕ → Base
 baseOf row =
     record {
@@ -61,6 +57,7 @@ baseOf row =
       scale = at row SCALE % 256;
       intensity = at row INTENSITY % 256;
       mode = at row MODE % 256;
+      starting = at row STARTING-ADDRESS % 256;
       datastate = on row STATE;
       running = on row RUNNING;
       horizontal = on row HORIZONTAL-EDGE-FLAG;
@@ -77,6 +74,8 @@ baseOf row =
       external = on row EXTERNAL-STOP-FLAG;
       penflag = on row PEN-FLAG;
       manual = on row MANUAL-INTERRUPT-FLAG;
+      upper = on row CASE;
+      seven = on row CODE-SIZE;
       held = heldOf row;
     }
 
@@ -134,7 +133,14 @@ baseRow b =
     ∷ boolByte (b .request)
     ∷ boolByte (holds (b .held))
     ∷ heldWord (b .held)
+    ∷ boolByte (b .upper)
+    ∷ boolByte (b .seven)
+    ∷ b .starting
     ∷ []
+
+-- the row of these and of no motion
+abbrev pub stillRow : Base → List ℕ
+stillRow b = baseRow b ++ zeros KIND
 
 -- the whole row
 unfoldable pub rowOf : Registers → List ℕ

@@ -85,6 +85,16 @@ HELD = 25
 abbrev pub HELD-WORD : ℕ
 HELD-WORD = 26
 
+-- the character generator's case, code size and starting address register
+abbrev pub CASE : ℕ
+CASE = 27
+
+abbrev pub CODE-SIZE : ℕ
+CODE-SIZE = 28
+
+abbrev pub STARTING-ADDRESS : ℕ
+STARTING-ADDRESS = 29
+
 -- FLAGS AND NUMBERS OF 8 BITS
 
 -- the state and the flags of the registers
@@ -107,7 +117,9 @@ flags =
     ∷ RUNNING
     ∷ STOP-REQUEST
     ∷ HELD
+    ∷ CASE
+    ∷ CODE-SIZE
     ∷ []
 
 abbrev pub narrows : List ℕ
-narrows = MODE ∷ SCALE ∷ INTENSITY ∷ []
+narrows = MODE ∷ SCALE ∷ INTENSITY ∷ STARTING-ADDRESS ∷ []

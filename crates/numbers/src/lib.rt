@@ -1,12 +1,12 @@
 // Registers as a row of numbers, for callers that have no other form: the registers in the order of the replay format, and behind them the numbers of the motion
 // (crate `motion_numbers`).
 ghost use mathlib.Core.Path.{_≡_};
-ghost use mathlib.Core.List.{_++_};
 ghost use Rattle.addresses.specs.Addresses.{address, pointer};
 ghost use Rattle.registers.specs.With.{withAddress, withPointer, withHeld};
 ghost use Rattle.registers.specs.declared.Held.the-variants.{Empty};
-ghost use Rattle.motion_numbers.specs.MotionNumbers.{KIND, zeros};
-ghost use Rattle.numbers.specs.Numbers.{flagsFit, narrowFit, heldFits, fits, heldOf, baseOf, unfit, registersOf, holds, heldWord, baseRow, rowOf, Faithful};
+ghost use Rattle.motion_numbers.specs.MotionNumbers.{flagsFit};
+ghost use Rattle.numbers.specs.Places.{flags};
+ghost use Rattle.numbers.specs.Numbers.{narrowFit, heldFits, fits, heldOf, baseOf, unfit, registersOf, holds, heldWord, stillRow, rowOf, Faithful};
 use addresses::DisplayAddress;
 use addresses::PushdownPointer;
 use registers::Base;
@@ -73,12 +73,21 @@ pub const HELD: usize = 25;
 
 pub const HELD_WORD: usize = 26;
 
-// The kind of motion, behind which its own numbers stand.
+// The character generator's case, code size and starting address register.
+pub const CASE: usize = 27;
+
+pub const CODE_SIZE: usize = 28;
+
+pub const STARTING_ADDRESS: usize = 29;
+
+// The kind of motion, behind which its own numbers stand; and a character's stage, behind which those of the stage stand.
 pub const KIND: usize = motion_numbers::KIND;
+
+pub const STAGE: usize = motion_numbers::STAGE;
 
 // Whether each flag of the registers is 0 or 1.
 fn flags_fit(row: [u16; ROW]) -> bool
-    ensures { λ r. ⌜ r ≡ flagsFit row ⌝ }
+    ensures { λ r. ⌜ r ≡ flagsFit row flags ⌝ }
 {
     (row[STATE] <= 1)
         & (row[PEN_ENABLE] <= 1)
@@ -97,6 +106,8 @@ fn flags_fit(row: [u16; ROW]) -> bool
         & (row[RUNNING] <= 1)
         & (row[STOP_REQUEST] <= 1)
         & (row[HELD] <= 1)
+        & (row[CASE] <= 1)
+        & (row[CODE_SIZE] <= 1)
 }
 
 // Whether there is no word where none is held.
@@ -110,7 +121,10 @@ fn held_fits(row: [u16; ROW]) -> bool
 fn narrow_fit(row: [u16; ROW]) -> bool
     ensures { λ r. ⌜ r ≡ narrowFit row ⌝ }
 {
-    (row[MODE] <= 255) & (row[SCALE] <= 255) & (row[INTENSITY] <= 255)
+    (row[MODE] <= 255)
+        & (row[SCALE] <= 255)
+        & (row[INTENSITY] <= 255)
+        & (row[STARTING_ADDRESS] <= 255)
 }
 
 // Whether every number of a row is one that its register can hold.
@@ -162,6 +176,9 @@ fn base_with(row: [u16; ROW], address: DisplayAddress, pointer: PushdownPointer,
         conditions: row[CONDITIONS],
         running: row[RUNNING] == 1,
         request: row[STOP_REQUEST] == 1,
+        upper: row[CASE] == 1,
+        seven: row[CODE_SIZE] == 1,
+        starting: (row[STARTING_ADDRESS] % 256) as u8,
     }
 }
 
@@ -224,17 +241,19 @@ fn held_word(h: Held) -> u16
 // The row of the registers but for the held word and the motion, and of none of these, with the numbers of the display address and the pushdown pointer. These
 // are read before: read here, they made the compiler keep the flags packed through the whole run.
 fn base_row(b: Base, display: u16, pushdown: u16) -> [u16; ROW]
-    ensures { λ r. ⌜ r ≡ baseRow (withHeld (withPointer (withAddress b (address display)) (pointer pushdown)) Empty) ++ zeros KIND ⌝ }
+    ensures { λ r. ⌜ r ≡ stillRow (withHeld (withPointer (withAddress b (address display)) (pointer pushdown)) Empty) ⌝ }
 {
     let mut row = [0u16; ROW];
     row[ADDRESS] = display;
     row[POINTER] = pushdown;
     row[X] = b.x;
     row[Y] = b.y;
-    row[STATE] = b.datastate as u16;
+    // What has 8 bits before the flags: there the check finds by itself that it fits.
     row[MODE] = b.mode as u16;
     row[SCALE] = b.scale as u16;
     row[INTENSITY] = b.intensity as u16;
+    row[STARTING_ADDRESS] = b.starting as u16;
+    row[STATE] = b.datastate as u16;
     row[PEN_ENABLE] = b.pen as u16;
     row[PEN_HOLD] = b.hold as u16;
     row[PEN_SENSE] = b.sense as u16;
@@ -252,41 +271,30 @@ fn base_row(b: Base, display: u16, pushdown: u16) -> [u16; ROW]
     row[CONDITIONS] = b.conditions;
     row[RUNNING] = b.running as u16;
     row[STOP_REQUEST] = b.request as u16;
+    row[CASE] = b.upper as u16;
+    row[CODE_SIZE] = b.seven as u16;
     row
 }
 
-// The row of registers. The motion's numbers are stored here: by a function of `motion_numbers`, the compiler made a longer run of it.
+// The row of the registers but for the motion, and of none.
+pub fn still_row(b: Base) -> [u16; ROW]
+    ensures { λ r. ⌜ r ≡ stillRow b ⌝ }
+{
+    let held = b.held;
+    let mut row = base_row(b, b.address.number(), b.pointer.number());
+    row[HELD] = holds(held) as u16;
+    row[HELD_WORD] = held_word(held);
+    row
+}
+
+// The row of registers.
 pub fn row_of(r: Registers) -> [u16; ROW]
     ensures { λ q. ⌜ q ≡ rowOf r ⌝ }
 {
     let b = r.base;
     let motion = r.motion;
-    let held = b.held;
-    let mut row = base_row(b, b.address.number(), b.pointer.number());
-    row[HELD] = holds(held) as u16;
-    row[HELD_WORD] = held_word(held);
-    match motion {
-        Motion::Nothing => {}
-        Motion::Line(lastword, l) => {
-            row[KIND] = 1;
-            row[motion_numbers::LINE_MINUS_Y] = l.minusy as u16;
-            row[motion_numbers::LINE_MINUS_X] = l.minusx as u16;
-            row[motion_numbers::LINE_MAGNITUDE_Y] = l.magy;
-            row[motion_numbers::LINE_MAGNITUDE_X] = l.magx;
-            row[motion_numbers::LINE_MOVES] = l.moves;
-            row[motion_numbers::LINE_DONE] = l.done;
-            row[motion_numbers::LINE_LIT] = l.lit as u16;
-            row[motion_numbers::LINE_ESCAPE] = l.escape as u16;
-            row[motion_numbers::LINE_LAST_WORD] = lastword.number();
-        }
-        Motion::Bytes(lastword, t) => {
-            row[KIND] = 2;
-            row[motion_numbers::BYTES_WORD] = t.word;
-            row[motion_numbers::BYTES_SIDE] = t.right as u16;
-            row[motion_numbers::BYTES_MOVES_LEFT] = t.moves;
-            row[motion_numbers::BYTES_LAST_WORD] = lastword.number();
-        }
-    }
+    let mut row = still_row(b);
+    motion_numbers::lay(motion, &mut row);
     row
 }
 

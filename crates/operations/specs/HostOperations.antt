@@ -1,14 +1,14 @@
--- Section 'Host operations' of 01: what each of the operations 1 to 6 sets in the registers other than the motion, in 01's order; inputs' file of this name has
--- the others. Which numbers and operands are taken, what is answered and what becomes of the motion is in host's. Assumes nothing.
+-- Section 'Host operations' of 01, with No. 6 of 02: what each of the operations 1 to 6 and 30 sets in the registers other than the motion, in that order;
+-- inputs' file of this name has the others. Which numbers and operands are taken, what is answered and what becomes of the motion is in host's. Assumes nothing.
 use Prim.Native.Nat.{ℕ}
 use mathlib.Core.Bool.{Bool, true, false, not, _&&_, _||_}
-use Rattle.words.specs.Words.{bit, pick}
+use Rattle.words.specs.Words.{bit, bits, pick}
 use Rattle.addresses.specs.declared.DisplayAddress.{DisplayAddress}
 use Rattle.addresses.specs.declared.PushdownPointer.{PushdownPointer}
 use Rattle.addresses.specs.Addresses.{breakField, addressIn}
 use Rattle.registers.specs.declared.Base.{Base}
 use Rattle.registers.specs.declared.Held.the-variants.{Empty}
-use Rattle.registers.specs.With.{withConditions, withAddress, withPointer, withMode, withDatastate, withRunning, withHorizontal, withVertical, withPen, withHold, withRequest, withInternal, withExternal, withPenflag, withHeld}
+use Rattle.registers.specs.With.{withConditions, withAddress, withPointer, withMode, withDatastate, withRunning, withHorizontal, withVertical, withPen, withHold, withRequest, withInternal, withExternal, withPenflag, withStarting, withUpper, withSeven, withHeld}
 
 -- the flags that stop are internal stop, external stop, the two edges and the pen (manual 1.1.9, a to d)
 abbrev pub stopsOff : Base → Base
@@ -46,3 +46,7 @@ cleared b =
 -- 6 stop request; none if stopped
 abbrev pub requested : Base → Base
 requested b = withRequest b (b .request || b .running)
+
+-- 30 sets case, code size and starting address "by the manual's RCG layout" (02, No. 6): bit 3, bit 4, bits 6 to 11 (manual 2.3.1.10)
+abbrev pub generated : Base → ℕ → Base
+generated b w = withStarting (withSeven (withUpper b (bit w 3)) (bit w 4)) (bits w 6 11)

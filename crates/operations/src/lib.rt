@@ -1,6 +1,6 @@
-// What the host operations 1 to 6 do to the registers other than the motion. Those from 7 on are in inputs.
+// What the host operations 1 to 6 and 30 do to the registers other than the motion. Those from 7 to 24 are in inputs.
 ghost use mathlib.Core.Path.{_≡_};
-ghost use Rattle.operations.specs.HostOperations.{stopsOff, started, pointed, conditioned, resumed, resume, cleared, requested};
+ghost use Rattle.operations.specs.HostOperations.{stopsOff, started, pointed, conditioned, resumed, resume, cleared, requested, generated};
 use addresses::DisplayAddress;
 use addresses::PushdownPointer;
 use registers::Base;
@@ -95,5 +95,16 @@ pub fn requested(b: Base) -> Base
 {
     let mut next = b;
     next.request = b.request | b.running;
+    next
+}
+
+// 30: set the character generator's case, code size and starting address register.
+pub fn generated(b: Base, word: u16) -> Base
+    ensures { λ r. ⌜ r ≡ generated b word ⌝ }
+{
+    let mut next = b;
+    next.upper = words::bit(word, 3);
+    next.seven = words::bit(word, 4);
+    next.starting = words::bits(word, 6, 11) as u8;
     next
 }

@@ -12,11 +12,14 @@ use Rattle.registers.specs.declared.Held.{Held}
 use Rattle.registers.specs.declared.Held.the-variants.{Empty, Holds}
 use Rattle.registers.specs.declared.LineMotion.{LineMotion}
 use Rattle.registers.specs.declared.ByteMotion.{ByteMotion}
+use Rattle.registers.specs.declared.Stage.{Stage}
+use Rattle.registers.specs.declared.Stage.the-variants.{Table, Routine, Increments, Short}
+use Rattle.registers.specs.declared.CharacterMotion.{CharacterMotion}
 use Rattle.registers.specs.declared.Motion.{Motion}
-use Rattle.registers.specs.declared.Motion.the-variants.{Nothing, Line, Bytes}
+use Rattle.registers.specs.declared.Motion.the-variants.{Nothing, Line, Bytes, Character}
 use Rattle.registers.specs.declared.Registers.{Registers}
-use Rattle.registers.specs.Registers.{larger, heldInRange, numbersInRange, lineInRange, bytesInRange, motionInRange, inRange, fresh}
-use Rattle.registers.specs.Good.{GoodHeld, GoodBase, GoodLine, GoodBytes, GoodMotion, Good}
+use Rattle.registers.specs.Registers.{larger, heldInRange, numbersInRange, lineInRange, countsInRange, bytesInRange, stageInRange, characterInRange, motionInRange, inRange, fresh}
+use Rattle.registers.specs.Good.{GoodHeld, GoodBase, GoodLine, GoodCounts, GoodBytes, GoodStage, GoodCharacter, GoodMotion, Good}
 
 good-held : (h : Held) → heldInRange h ≡ true → GoodHeld h
 unfolding heldInRange
@@ -26,7 +29,8 @@ good-held (Holds word) q = leb-true _ _ q
 good-base : (b : Base) → numbersInRange b ≡ true → GoodBase b
 unfolding numbersInRange
 good-base b h =
-    let h9 = both _ _ h in
+    let h10 = both _ _ h in
+    let h9 = both _ _ (h10 .0) in
     let h8 = both _ _ (h9 .0) in
     let h7 = both _ _ (h8 .0) in
     let h6 = both _ _ (h7 .0) in
@@ -45,7 +49,8 @@ good-base b h =
       intensity = ltb-true _ _ (h6 .1);
       buttons = ltb-true _ _ (h7 .1);
       conditions = ltb-true _ _ (h8 .1);
-      held = good-held (b .held) (h9 .1);
+      starting = ltb-true _ _ (h9 .1);
+      held = good-held (b .held) (h10 .1);
     }
 
 good-line : (l : LineMotion) → lineInRange l ≡ true → GoodLine l
@@ -63,18 +68,27 @@ good-line l h =
       done = ltb-true _ _ (h4 .1);
     }
 
+good-counts : (t : ByteMotion) → countsInRange t ≡ true → GoodCounts t
+unfolding countsInRange
+good-counts t h =
+    let h2 = both _ _ h in
+    let h1 = both _ _ (h2 .0) in
+    record { word = ltb-true _ _ (h1 .0); some = leb-true _ _ (h1 .1); asked = leb-true _ _ (h2 .1) }
+
 good-bytes : (t : ByteMotion) → bytesInRange t ≡ true → GoodBytes t
 unfolding bytesInRange
-good-bytes t h =
-    let h3 = both _ _ h in
-    let h2 = both _ _ (h3 .0) in
-    let h1 = both _ _ (h2 .0) in
-    record {
-      word = ltb-true _ _ (h1 .0);
-      some = leb-true _ _ (h1 .1);
-      asked = leb-true _ _ (h2 .1);
-      reached = not-true _ (h3 .1);
-    }
+good-bytes t h = let k = both _ _ h in record { counts = good-counts t (k .0); reached = not-true _ (k .1) }
+
+good-stage : (s : Stage) → stageInRange s ≡ true → GoodStage s
+unfolding stageInRange
+good-stage Table h = tt
+good-stage (Routine short next) h = ltb-true _ _ h
+good-stage (Increments from t) h = let k = both _ _ h in (good-counts t (k .0), ltb-true _ _ (k .1))
+good-stage (Short from l) h = let k = both _ _ h in (good-line l (k .0), ltb-true _ _ (k .1))
+
+good-character : (c : CharacterMotion) → characterInRange c ≡ true → GoodCharacter c
+unfolding characterInRange
+good-character c h = let k = both _ _ h in record { word = ltb-true _ _ (k .0); stage = good-stage (c .stage) (k .1) }
 
 good-motion : (m : Motion) (datastate : Bool) (mode : ℕ) → motionInRange m datastate mode ≡ true → GoodMotion m datastate mode
 unfolding motionInRange
@@ -90,6 +104,7 @@ good-motion (Bytes lastword t) datastate mode h =
     let h2 = both _ _ (h3 .0) in
     let h1 = both _ _ (h2 .0) in
     (h1 .0, eqb-true _ _ (h1 .1), good-bytes t (h2 .1), ltb-true _ _ (h3 .1))
+good-motion (Character c) datastate mode h = good-character c h
 
 pub good : (r : Registers) → inRange r ≡ true → Good r
 unfolding inRange
@@ -115,6 +130,7 @@ formed-base b g =
       lt-ltb _ _ (g .intensity),
       lt-ltb _ _ (g .buttons),
       lt-ltb _ _ (g .conditions),
+      lt-ltb _ _ (g .starting),
       formed-held (b .held) (g .held),
     )
 
@@ -129,15 +145,31 @@ formed-line g =
       lt-ltb _ _ (g .done),
     )
 
+formed-counts : {t : ByteMotion} → GoodCounts t → countsInRange t ≡ true
+unfolding countsInRange
+formed-counts g = rw (lt-ltb _ _ (g .word), le-leb _ _ (g .some), le-leb _ _ (g .asked))
+
 formed-bytes : {t : ByteMotion} → GoodBytes t → bytesInRange t ≡ true
 unfolding bytesInRange
-formed-bytes g = rw (lt-ltb _ _ (g .word), le-leb _ _ (g .some), le-leb _ _ (g .asked), g .reached)
+formed-bytes g = rw (formed-counts (g .counts), g .reached)
+
+formed-stage : (s : Stage) → GoodStage s → stageInRange s ≡ true
+unfolding stageInRange
+formed-stage Table g = refl
+formed-stage (Routine short next) g = lt-ltb _ _ g
+formed-stage (Increments from t) g = rw (formed-counts (g .0), lt-ltb _ _ (g .1))
+formed-stage (Short from l) g = rw (formed-line (g .0), lt-ltb _ _ (g .1))
+
+formed-character : (c : CharacterMotion) → GoodCharacter c → characterInRange c ≡ true
+unfolding characterInRange
+formed-character c g = rw (lt-ltb _ _ (g .word), formed-stage (c .stage) (g .stage))
 
 formed-motion : (m : Motion) (datastate : Bool) (mode : ℕ) → GoodMotion m datastate mode → motionInRange m datastate mode ≡ true
 unfolding motionInRange
 formed-motion Nothing datastate mode g = refl
 formed-motion (Line lastword l) datastate mode g = rw (g .0, le-leb _ _ (g .1), le-leb _ _ (g .2), formed-line (g .3), lt-ltb _ _ (g .4))
 formed-motion (Bytes lastword t) datastate mode g = rw (g .0, eq-eqb _ _ (g .1), formed-bytes (g .2), lt-ltb _ _ (g .3))
+formed-motion (Character c) datastate mode g = formed-character c g
 
 pub formed : (r : Registers) → Good r → inRange r ≡ true
 unfolding inRange

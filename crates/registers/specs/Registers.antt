@@ -1,4 +1,4 @@
--- Section 'Registers' of 01: which registers are in range (the others get refusal 4), and the fresh ones. Assumes nothing.
+-- Section 'Registers' of 01, with Nos. 4, 5 and 6 of 02: which registers are in range (the others get refusal 4), and the fresh ones. Assumes nothing.
 use Prim.Native.Nat.{ℕ, _/_, _%_}
 use mathlib.Core.Bool.{Bool, true, false, not, _&&_}
 use lib.Dec.{ltb, leb, eqb}
@@ -9,8 +9,11 @@ use Rattle.registers.specs.declared.LineMotion.{LineMotion}
 use Rattle.registers.specs.declared.ByteMotion.{ByteMotion}
 use Rattle.registers.specs.declared.Held.{Held}
 use Rattle.registers.specs.declared.Held.the-variants.{Empty, Holds}
+use Rattle.registers.specs.declared.Stage.{Stage}
+use Rattle.registers.specs.declared.Stage.the-variants.{Table, Routine, Increments, Short}
+use Rattle.registers.specs.declared.CharacterMotion.{CharacterMotion}
 use Rattle.registers.specs.declared.Motion.{Motion}
-use Rattle.registers.specs.declared.Motion.the-variants.{Nothing, Line, Bytes}
+use Rattle.registers.specs.declared.Motion.the-variants.{Nothing, Line, Bytes, Character}
 use Rattle.registers.specs.declared.Registers.{Registers}
 
 -- n is the larger of the two magnitudes
@@ -34,7 +37,8 @@ unfoldable pub heldInRange : Held → Bool
 heldInRange Empty = true
 heldInRange (Holds word) = leb word 4095
 
--- a 15-bit display address, a 12-bit pushdown pointer, 13-bit x and y, mode 0 to 7, scale 0 to 3, intensity 0 to 7, 12 buttons, 12 condition bits, the held word
+-- a 15-bit display address, a 12-bit pushdown pointer, 13-bit x and y, mode 0 to 7, scale 0 to 3, intensity 0 to 7, 12 buttons, 12 condition bits, the six bits of
+-- the starting address register (02, No. 6), the held word
 unfoldable pub numbersInRange : Base → Bool
 numbersInRange b =
     ltb (b .address .0) 32768
@@ -46,6 +50,7 @@ numbersInRange b =
     && ltb (b .intensity) 8
     && ltb (b .buttons) 4096
     && ltb (b .conditions) 4096
+    && ltb (b .starting) 64
     && heldInRange (b .held)
 
 -- magnitudes up to 1,023, n = the larger, at least 1, done k below n
@@ -57,20 +62,33 @@ lineInRange l =
     && leb 1 (l .moves)
     && ltb (l .done) (l .moves)
 
--- a 12-bit word, 1 to 3 moves left and no more than that byte asks; right only if the left byte does not escape
+-- a 12-bit word, 1 to 3 moves left and no more than that byte asks
+unfoldable pub countsInRange : ByteMotion → Bool
+countsInRange t = ltb (t .word) 4096 && leb 1 (t .moves) && leb (t .moves) (movesAsked (byteAt (t .word) (t .right)))
+
+-- right only if the left byte does not escape
 unfoldable pub bytesInRange : ByteMotion → Bool
-bytesInRange t =
-    ltb (t .word) 4096
-    && leb 1 (t .moves)
-    && leb (t .moves) (movesAsked (byteAt (t .word) (t .right)))
-    && not (t .right && escapes (byteAt (t .word) false))
+bytesInRange t = countsInRange t && not (t .right && escapes (byteAt (t .word) false))
+
+-- "parts of an unfinished character, outside their widths or 01's limits on motion counts are 4, and nothing else of a character is" (02, No. 6): 15-bit
+-- addresses, and of a routine word's moves what 01 counts
+unfoldable pub stageInRange : Stage → Bool
+stageInRange Table = true
+stageInRange (Routine short next) = ltb (next .0) 32768
+stageInRange (Increments from t) = countsInRange t && ltb (from .0) 32768
+stageInRange (Short from l) = lineInRange l && ltb (from .0) 32768
+
+-- a 12-bit character word
+unfoldable pub characterInRange : CharacterMotion → Bool
+characterInRange c = ltb (c .word) 4096 && stageInRange (c .stage)
 
 -- a line only in data state and modes 2, 3, 4; bytes only in data state and mode 1; "the 15-bit address of the last word of the command", which "the motion
--- registers must remember" (02, No. 5)
+-- registers must remember" (02, No. 5); a character in any state and mode (02, No. 6)
 unfoldable pub motionInRange : Motion → Bool → ℕ → Bool
 motionInRange Nothing datastate mode = true
 motionInRange (Line lastword l) datastate mode = datastate && leb 2 mode && leb mode 4 && lineInRange l && ltb (lastword .0) 32768
 motionInRange (Bytes lastword t) datastate mode = datastate && eqb mode 1 && bytesInRange t && ltb (lastword .0) 32768
+motionInRange (Character c) datastate mode = characterInRange c
 
 -- values outside this are refusal 4
 unfoldable pub inRange : Registers → Bool
@@ -89,6 +107,7 @@ freshBase =
       scale = 0;
       intensity = 0;
       mode = 0;
+      starting = 0;
       datastate = false;
       running = false;
       horizontal = false;
@@ -105,6 +124,8 @@ freshBase =
       external = false;
       penflag = false;
       manual = false;
+      upper = false;
+      seven = false;
       held = Empty;
     }
 

@@ -1,6 +1,6 @@
 // The display's registers, the fresh ones, and the test that refusal 4 is.
 ghost use mathlib.Core.Path.{_≡_};
-ghost use Rattle.registers.specs.Registers.{larger, byteAt, movesAsked, escapes, heldInRange, numbersInRange, lineInRange, bytesInRange, motionInRange, inRange, fresh};
+ghost use Rattle.registers.specs.Registers.{larger, byteAt, movesAsked, escapes, heldInRange, numbersInRange, lineInRange, countsInRange, bytesInRange, stageInRange, characterInRange, motionInRange, inRange, fresh};
 use addresses::DisplayAddress;
 use addresses::PushdownPointer;
 
@@ -24,12 +24,30 @@ pub struct ByteMotion {
     pub right: bool,
 }
 
+// What an unfinished character waits for: its table word; the next word of its routine, of short vectors or of increments, at an address; or the moves that are
+// left of a routine word, whose address stands before them.
+pub enum Stage {
+    Table,
+    Routine(bool, DisplayAddress),
+    Increments(DisplayAddress, ByteMotion),
+    Short(DisplayAddress, LineMotion),
+}
+
+// An unfinished character: its word, read as one code of seven bits or as two of six, and of these the left one or the right one.
+pub struct CharacterMotion {
+    pub word: u16,
+    pub seven: bool,
+    pub right: bool,
+    pub stage: Stage,
+}
+
 // What is under way, with the address of its command's last word, which its points tell. The address stands beside the struct: in a struct of bytes it would
 // make eight bytes, which the compiler moves as one number and takes apart again in each move.
 pub enum Motion {
     Nothing,
     Line(DisplayAddress, LineMotion),
     Bytes(DisplayAddress, ByteMotion),
+    Character(CharacterMotion),
 }
 
 // The word that an external stop holds for the next command beat.
@@ -51,6 +69,8 @@ pub struct Base {
     pub scale: u8,
     pub intensity: u8,
     pub mode: u8,
+    // The character generator's starting address register (SAR).
+    pub starting: u8,
     // The state: data, or control where it is off.
     pub datastate: bool,
     // Pen enable.
@@ -75,6 +95,9 @@ pub struct Base {
     pub external: bool,
     pub penflag: bool,
     pub manual: bool,
+    // The character generator's case, and its code size: seven bits, or six where it is off.
+    pub upper: bool,
+    pub seven: bool,
     pub held: Held,
 }
 
@@ -134,6 +157,7 @@ fn numbers_in_range(b: Base) -> bool
         & (b.intensity < 8)
         & (b.buttons < 4096)
         & (b.conditions < 4096)
+        & (b.starting < 64)
         & held_in_range(held)
 }
 
@@ -147,12 +171,36 @@ fn line_in_range(l: LineMotion) -> bool
         & (l.done < l.moves)
 }
 
+fn counts_in_range(t: ByteMotion) -> bool
+    ensures { λ r. ⌜ r ≡ countsInRange t ⌝ }
+{
+    let asked = moves_asked(byte_at(t.word, t.right));
+    (t.word < 4096) & (1 <= t.moves) & (t.moves <= asked)
+}
+
 fn bytes_in_range(t: ByteMotion) -> bool
     ensures { λ r. ⌜ r ≡ bytesInRange t ⌝ }
 {
-    let asked = moves_asked(byte_at(t.word, t.right));
     let dropped = escapes(byte_at(t.word, false));
-    (t.word < 4096) & (1 <= t.moves) & (t.moves <= asked) & !(t.right & dropped)
+    counts_in_range(t) & !(t.right & dropped)
+}
+
+fn stage_in_range(s: Stage) -> bool
+    ensures { λ r. ⌜ r ≡ stageInRange s ⌝ }
+{
+    match s {
+        Stage::Table => true,
+        Stage::Routine(_, next) => next.number() < 32768,
+        Stage::Increments(from, t) => counts_in_range(t) & (from.number() < 32768),
+        Stage::Short(from, l) => line_in_range(l) & (from.number() < 32768),
+    }
+}
+
+fn character_in_range(c: CharacterMotion) -> bool
+    ensures { λ r. ⌜ r ≡ characterInRange c ⌝ }
+{
+    let stage = c.stage;
+    (c.word < 4096) & stage_in_range(stage)
 }
 
 fn motion_in_range(m: Motion, datastate: bool, mode: u8) -> bool
@@ -166,6 +214,7 @@ fn motion_in_range(m: Motion, datastate: bool, mode: u8) -> bool
         Motion::Bytes(lastword, t) => {
             datastate & (mode == 1) & bytes_in_range(t) & (lastword.number() < 32768)
         }
+        Motion::Character(c) => character_in_range(c),
     }
 }
 
@@ -192,6 +241,7 @@ pub fn fresh() -> Registers
         scale: 0,
         intensity: 0,
         mode: 0,
+        starting: 0,
         datastate: false,
         running: false,
         horizontal: false,
@@ -208,6 +258,8 @@ pub fn fresh() -> Registers
         external: false,
         penflag: false,
         manual: false,
+        upper: false,
+        seven: false,
         held: Held::Empty,
     };
     Registers {

@@ -45,10 +45,13 @@ fn fitting(r: Reader, row: Row) -> Reader {
 pub(crate) fn read(r: Reader, block: &mut Block) -> Taken {
     let mut row = [0u16; numbers::ROW];
     let q = read_part(r, block, &mut row, 0, numbers::KIND + 1);
-    let end = motion_numbers::used(row[numbers::KIND]);
-    let p = read_part(q, block, &mut row, numbers::KIND + 1, end);
+    // Of a character the stage, which comes with its first numbers, tells how many there are.
+    let first = motion_numbers::used(row[numbers::KIND], 0);
+    let p = read_part(q, block, &mut row, numbers::KIND + 1, first);
+    let end = motion_numbers::used(row[numbers::KIND], row[numbers::STAGE]);
+    let o = read_part(p, block, &mut row, first, end);
     Taken {
-        reader: fitting(p, row),
+        reader: fitting(o, row),
         row,
     }
 }
@@ -60,6 +63,6 @@ pub(crate) fn left(given: Row, refused: bool, r: Registers) -> Row {
 
 // Writes a row, with a space before each number.
 pub(crate) fn write(row: Row, out: &mut Block, place: usize) -> usize {
-    let end = motion_numbers::used(row[numbers::KIND]);
+    let end = motion_numbers::used(row[numbers::KIND], row[numbers::STAGE]);
     output::numbers(&row[..end], out, place)
 }

@@ -13,14 +13,14 @@ use Rattle.words.specs.Words.{pick}
 use Rattle.words.proofs.Laws.{pick-case, both}
 use Rattle.registers.specs.declared.Base.{Base}
 use Rattle.registers.specs.declared.Motion.{Motion}
-use Rattle.registers.specs.declared.Motion.the-variants.{Nothing, Line, Bytes}
+use Rattle.registers.specs.declared.Motion.the-variants.{Nothing, Line, Bytes, Character}
 use Rattle.registers.specs.declared.Registers.{Registers}
 use Rattle.beam.specs.declared.Lit.{Lit}
 use Rattle.beam.specs.declared.Lit.the-variants.{Dark}
 use Rattle.moves.specs.declared.Move.{Move}
 use Rattle.beam.specs.declared.Outcome.{Outcome}
 use Rattle.moves.specs.declared.Moving.{Moving}
-use Rattle.moves.specs.declared.Moving.the-variants.{Still, Going}
+use Rattle.moves.specs.declared.Moving.the-variants.{Still, Going, Looks, Reads}
 use Rattle.beam.specs.DataWords.{points}
 use Rattle.moves.specs.DataWords.{nextMove, displaced}
 use Rattle.moves.proofs.Kept.{neither}
@@ -64,7 +64,7 @@ turn-control : (l : Loan) (m : List ℕ) (room : ℕ) (b : Base) → b .datastat
 unfolding turn nextMove unusable commandBeat pick
 turn-control l m room b d q =
     ap (roomFor room)
-    (walk-idle l m b q (ap (λ (t : Bool). t && (eqb (b .mode) 5 || eqb (b .mode) 7)) d)
+    (walk-idle l m b q (ap (λ (t : Bool). t && eqb (b .mode) 7) d)
     ∙ ap (λ (t : Bool). walk l m (taking b (λ w. commandBy (ready b) w t))) d)
     ∙ room-bare room _ (next-bare l m b)
 
@@ -78,6 +78,8 @@ moves-left (suc k) r ps place = by (λ r ps place. moves-left k r ps place) (nex
     by : ((r : Registers) (ps : List ℕ) (place : ℕ) → sequence k r ps place .sequence .left ≤ k) → (v : Moving) →
         onMove (sequence k) (suc k) r ps place v .sequence .left ≤ suc k
     by ih Still = omega arith
+    by ih (Looks c) = omega arith
+    by ih (Reads c short at) = omega arith
     by ih (Going v) =
         pick-case (λ (s : SequenceLeft). s .sequence .left ≤ suc k) _
         (λ _.
@@ -136,6 +138,8 @@ module _ (l : Loan) (m₀ ps₀ : List ℕ) (k : ℕ) (r₀ : Registers) where
       by : ((ps : List ℕ) (r : Registers) (b n : ℕ) → Head m ps r b n → r .base .datastate ≡ true → k - b ≡ suc j → MovesCome m (sequence j r ps n)) →
           (v : Moving) → nextMove (r .motion) (r .base .mode) (r .base .scale) ≡ v → MovesCome m (onMove (sequence j) (suc j) r ps n v)
       by ih Still q = moves-stay (suc j) m ps r b n h d e
+      by ih (Looks c) q = moves-stay (suc j) m ps r b n h d e
+      by ih (Reads c short at) q = moves-stay (suc j) m ps r b n h d e
       by ih (Going v) q =
           pick-case (MovesCome m) (plain (r .base) v && leb (n + length (points (displaced (r .base) v .lit))) (length ps))
           (λ t.
@@ -238,6 +242,13 @@ module _ (l : Loan) (m₀ ps₀ : List ℕ) (k : ℕ) (r₀ : Registers) where
       }
   made-by m ps b n c (Line lastword line) h lt = moved m ps b n (record { base = c; motion = Line lastword line }) h (h .good .motion .0) lt
   made-by m ps b n c (Bytes lastword bytes) h lt = moved m ps b n (record { base = c; motion = Bytes lastword bytes }) h (h .good .motion .0) lt
+  made-by m ps b n c (Character v) h lt =
+      let q : b ≡ k - (k - b) = omega (arith, h .spent) in
+      record {
+        comes = subst (λ (t : ℕ). Head m ps (record { base = c; motion = Character v }) t n) q h;
+        drawing = λ _ _ e _. cc;
+        left = omega arith;
+      }
 
   -- what the code made ahead of a turn
   pub made : {m ps : List ℕ} {b n : ℕ} {r : Registers} → Head m ps r b n → b < k → {a : Ahead} {m′ ps′ : List ℕ} →

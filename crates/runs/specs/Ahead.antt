@@ -4,7 +4,7 @@ use Prim.Native.Nat.{ℕ, _+_, _-_}
 use mathlib.Core.List.{List}
 use Rattle.registers.specs.declared.Base.{Base}
 use Rattle.registers.specs.declared.Motion.{Motion}
-use Rattle.registers.specs.declared.Motion.the-variants.{Nothing, Line, Bytes}
+use Rattle.registers.specs.declared.Motion.the-variants.{Nothing, Line, Bytes, Character}
 use Rattle.registers.specs.declared.Registers.{Registers}
 use Rattle.loan.specs.declared.Loan.{Loan}
 use Rattle.endings.specs.declared.Halt.the-variants.{Goes}
@@ -34,6 +34,8 @@ abbrev pub aheadBy : ℕ → Loan → Base → List ℕ → List ℕ → ℕ →
 aheadBy n l b m ps place Nothing = afterWords (obey n l b m) ps place
 aheadBy n l b m ps place (Line lastword line) = afterMoves (sequence (n - 1) (record { base = b; motion = Line lastword line }) ps place) m
 aheadBy n l b m ps place (Bytes lastword bytes) = afterMoves (sequence (n - 1) (record { base = b; motion = Bytes lastword bytes }) ps place) m
+aheadBy n l b m ps place (Character c) =
+    leaves (record { registers = record { base = b; motion = Character c }; place = place; left = n; halt = Goes }) m ps
 
 abbrev pub makeAhead : ℕ → Loan → Registers → List ℕ → List ℕ → ℕ → AheadLeft
 makeAhead n l r m ps place = aheadBy n l (r .base) m ps place (r .motion)

@@ -99,6 +99,12 @@ fn make_ahead(
                 halt: Halt::Goes,
             }
         }
+        Motion::Character(_) => Ahead {
+            registers: r,
+            place,
+            left: limit,
+            halt: Halt::Goes,
+        },
     }
 }
 

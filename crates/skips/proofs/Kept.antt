@@ -21,7 +21,7 @@ pub flag-skip-good : (b : Base) (w : ℕ) → GoodBase b → GoodBase (flagSkip 
 unfolding flagSkip
 flag-skip-good b w g = skipping-good b _ g
 
-counted-small : {v : ℕ} (top : ℕ) (on down : Bool) → v < suc top → counted v top on down < suc top
+pub counted-small : {v : ℕ} (top : ℕ) (on down : Bool) → v < suc top → counted v top on down < suc top
 unfolding counted
 counted-small {v} top on down h =
     pick-case (λ (n : ℕ). n < suc top) on

@@ -60,7 +60,7 @@ pub fn flag_skip(b: Base, word: u16) -> Base
 }
 
 // One up, or down, stopping at the ends.
-fn counted(value: u8, top: u8, on: bool, down: bool) -> u8
+pub fn counted(value: u8, top: u8, on: bool, down: bool) -> u8
     ensures { λ r. ⌜ r ≡ counted value top on down ⌝ }
 {
     if on {

@@ -1,12 +1,16 @@
--- Section 'Host operations' of 01, status 1 and 2: the layouts of the manual, 2.3.1.5 and 2.3.1.6, as 01 reads them. Assumes nothing.
+-- Section 'Host operations' of 01, status 1 and 2, and the word of No. 6 of 02: the layouts of the manual, 2.3.1.5, 2.3.1.6 and 2.3.1.10, as 01 and 02 read
+-- them. Assumes nothing.
 use Prim.Native.Nat.{ℕ, _+_, _*_, _/_, _%_, _^_}
 use mathlib.Core.Bool.{Bool, false, not, _&&_, _||_}
+use lib.Dec.{eqb}
 use Rattle.words.specs.Words.{bit, weight, pick}
 use Rattle.addresses.specs.Addresses.{breakField}
 use Rattle.paper.specs.DataWords.{sectorZero}
 use Rattle.registers.specs.declared.Base.{Base}
+use Rattle.registers.specs.declared.Stage.{Stage}
+use Rattle.registers.specs.declared.Stage.the-variants.{Table, Routine, Increments, Short}
 use Rattle.registers.specs.declared.Motion.{Motion}
-use Rattle.registers.specs.declared.Motion.the-variants.{Nothing, Line, Bytes}
+use Rattle.registers.specs.declared.Motion.the-variants.{Nothing, Line, Bytes, Character}
 
 -- a word whose bit at this place is 1, if the flag is on, and all else 0
 abbrev pub flag : Bool → ℕ → ℕ
@@ -40,12 +44,32 @@ statusOne b =
     + flag (interrupts b) 8
     + breakField (b .address)
 
--- the byte bit is 1 only in a right byte (01, Host operations)
+-- the byte bit is 1 only in a right byte (01, Host operations), of an increment word of a routine too
+unfoldable pub stageByteFlag : Stage → Bool
+stageByteFlag Table = false
+stageByteFlag (Routine short next) = false
+stageByteFlag (Increments from t) = t .right
+stageByteFlag (Short from l) = false
+
 unfoldable pub byteFlag : Motion → Bool
 byteFlag Nothing = false
 byteFlag (Line lastword l) = false
 byteFlag (Bytes lastword t) = t .right
+byteFlag (Character c) = stageByteFlag (c .stage)
 
 -- status 2 (2.3.1.6): the byte bit, pen enable, the high bits of y and x, then the settings
 unfoldable pub statusTwo : Base → Motion → ℕ
 statusTwo b m = flag (byteFlag m) 0 + flag (b .pen) 1 + b .y / 4096 * 2 ^ 9 + b .x / 4096 * 2 ^ 8 + settings b
+
+-- "byte bit 1 only in a right character" (02, No. 6)
+unfoldable pub rightCharacter : Motion → Bool
+rightCharacter Nothing = false
+rightCharacter (Line lastword l) = false
+rightCharacter (Bytes lastword t) = false
+rightCharacter (Character c) = c .right
+
+-- the character generator's word (2.3.1.10): bit 0 "the display is in character mode and data state", bit 1 the byte bit, bit 3 the case, bit 4 the code size,
+-- 6 to 11 the starting address register
+unfoldable pub generatorWord : Base → Motion → ℕ
+generatorWord b m =
+    flag (b .datastate && eqb (b .mode) 5) 0 + flag (rightCharacter m) 1 + flag (b .upper) 3 + flag (b .seven) 4 + b .starting % 64

@@ -1,9 +1,10 @@
-// The two status words of the display, and the low bits of the push's first word, which status 2 shares.
+// The two status words of the display, the word of its character generator, and the low bits of the push's first word, which status 2 shares.
 ghost use mathlib.Core.Path.{_≡_};
-ghost use Rattle.status.specs.Status.{settings, interrupts, statusOne, byteFlag, statusTwo};
+ghost use Rattle.status.specs.Status.{settings, interrupts, statusOne, stageByteFlag, byteFlag, statusTwo, rightCharacter, generatorWord};
 ghost use Rattle.status.specs.FlagAt.{FlagAt};
 use registers::Base;
 use registers::Motion;
+use registers::Stage;
 
 // The weight of a flag in a word, or 0 where the flag is off. That it is no more than the weight keeps the sums below small.
 pub fn flag_at(on: bool, weight: u16) -> u16
@@ -52,6 +53,18 @@ pub fn status_one(b: Base) -> u16
         + b.address.break_field()
 }
 
+// Whether the right byte of a routine's increment word is under way.
+fn stage_byte_flag(s: Stage) -> bool
+    ensures { λ r. ⌜ r ≡ stageByteFlag s ⌝ }
+{
+    match s {
+        Stage::Table => false,
+        Stage::Routine(_, _) => false,
+        Stage::Increments(_, t) => t.right,
+        Stage::Short(_, _) => false,
+    }
+}
+
 // Whether the right byte of an increment word is under way.
 fn byte_flag(m: Motion) -> bool
     ensures { λ r. ⌜ r ≡ byteFlag m ⌝ }
@@ -60,6 +73,10 @@ fn byte_flag(m: Motion) -> bool
         Motion::Nothing => false,
         Motion::Line(_, _) => false,
         Motion::Bytes(_, t) => t.right,
+        Motion::Character(c) => {
+            let stage = c.stage;
+            stage_byte_flag(stage)
+        }
     }
 }
 
@@ -71,4 +88,27 @@ pub fn status_two(b: Base, m: Motion) -> u16
         + b.y / 4096 * 512
         + b.x / 4096 * 256
         + settings(b)
+}
+
+// Whether a right character is under way.
+fn right_character(m: Motion) -> bool
+    ensures { λ r. ⌜ r ≡ rightCharacter m ⌝ }
+{
+    match m {
+        Motion::Nothing => false,
+        Motion::Line(_, _) => false,
+        Motion::Bytes(_, _) => false,
+        Motion::Character(c) => c.right,
+    }
+}
+
+// The character generator's word.
+pub fn generator_word(b: Base, m: Motion) -> u16
+    ensures { λ r. ⌜ r ≡ generatorWord b m ⌝ }
+{
+    flag_at(b.datastate & (b.mode == 5), 2048)
+        + flag_at(right_character(m), 1024)
+        + flag_at(b.upper, 256)
+        + flag_at(b.seven, 128)
+        + (b.starting as u16) % 64
 }

@@ -2,7 +2,7 @@
 -- at once, and the walk not at all. Assumes nothing.
 use Prim.Native.Nat.{ℕ, _≤_}
 use mathlib.Core.Path.{_≡_, refl}
-use mathlib.Core.Bool.{Bool, true, false, _&&_, _||_}
+use mathlib.Core.Bool.{Bool, true, false, _&&_}
 use mathlib.Core.List.{List}
 use native.Mathlib.Omega.{arith}
 use lib.Dec.{eqb, leb}
@@ -14,27 +14,26 @@ use Rattle.registers.specs.declared.Registers.{Registers}
 use Rattle.registers.specs.Good.{GoodBase, Good}
 use Rattle.beam.proofs.Kept.{GoodOutcome}
 use Rattle.moves.specs.declared.Moving.{Moving}
-use Rattle.moves.specs.declared.Moving.the-variants.{Still, Going}
+use Rattle.moves.specs.declared.Moving.the-variants.{Still, Going, Looks, Reads}
 use Rattle.moves.specs.DataWords.{nextMove}
-use Rattle.moves.proofs.Kept.{displaced-good}
-use Rattle.drawing.proofs.Kept.{point-good, increment-good, vector-good, short-vector-good, graphplot-good}
+use Rattle.moves.proofs.KeptCharacters.{displaced-good, looks-good, reads-good}
+use Rattle.drawing.proofs.Kept.{point-good, increment-good, vector-good, short-vector-good, character-good, graphplot-good}
+use Rattle.characters.proofs.Kept.{table-good, routine-good}
 use Rattle.loan.specs.declared.Loan.{Loan}
 use Rattle.touches.specs.declared.Act.{Act}
 use Rattle.touches.specs.Touches.{Turn, Fails, Rests, Does, walk}
 use Rattle.touches.proofs.Kept.{GoodRest, GoodAct, GoodBeat, GoodTurn, taking-good, walk-good}
-use Rattle.control_beats.specs.ControlWords.{ready}
-use Rattle.control_beats.proofs.Kept.{ready-good, control-good}
+use Rattle.control_beats.specs.ControlWords.{holdEnded, ready}
+use Rattle.control_beats.proofs.Kept.{hold-ended-good, ready-good, control-good}
 use Rattle.beam.specs.DataWords.{points}
-use Rattle.turns.specs.OneTurn.{longBeat, dataBeat, commandBeat, unusable, idleBeat, beatBy, beat, roomFor, turn}
+use Rattle.turns.specs.OneTurn.{longBeat, dataBeat, commandBeat, unusable, idleBeat, tableBeat, routineBeat, beatBy, beat, roomFor, turn}
 
 -- THE DISPATCH
 
 -- data state in a mode that is usable
-usable : (d x y : Bool) → d ≡ true → (d && (x || y)) ≡ false → (x ≡ false) × (y ≡ false)
-usable true false false d u = (refl, refl)
-usable true false true d u = (refl, u)
-usable true true y d u = (u, cc)
-usable false x y d u = (cc, cc)
+usable : (d x : Bool) → d ≡ true → (d && x) ≡ false → x ≡ false
+usable true x d u = u
+usable false x d u = cc
 
 -- how a command beat begins makes no mode unusable
 ready-usable : (b : Base) → unusable b ≡ false → unusable (ready b) ≡ false
@@ -44,15 +43,16 @@ ready-usable b u = u
 data-good : (b : Base) (w : ℕ) → GoodBase b → b .datastate ≡ true → unusable b ≡ false → w ≤ 4095 → GoodBeat (dataBeat b w)
 unfolding dataBeat longBeat unusable
 data-good b w g d u h =
-    let n = usable (b .datastate) (eqb (b .mode) 5) (eqb (b .mode) 7) d u in
+    let n = usable (b .datastate) (eqb (b .mode) 7) d u in
     pick-case GoodBeat (eqb (b .mode) 1) (λ e. increment-good b w g d (eqb-true _ _ e) h)
     (λ e1. pick-case GoodBeat (eqb (b .mode) 4)
     (λ e. let four = eqb-true (b .mode) 4 e in short-vector-good b w g d (omega arith) (omega arith))
-    (λ e4. pick-case GoodBeat (eqb (b .mode) 6) (λ _. graphplot-good b w g)
+    (λ e4. pick-case GoodBeat (eqb (b .mode) 5) (λ _. character-good b w g h)
+    (λ e5. pick-case GoodBeat (eqb (b .mode) 6) (λ _. graphplot-good b w g)
     (λ e6 v _. pick-case GoodOutcome (eqb (b .mode) 0) (λ _. point-good b w v g)
     (λ e0.
-    let t : (2 ≤ b .mode) × (b .mode ≤ 4) = omega (arith, eqb-false (b .mode) 0 e0, eqb-false (b .mode) 1 e1, eqb-false (b .mode) 4 e4, eqb-false (b .mode) 6 e6, eqb-false (b .mode) 5 (n .0), eqb-false (b .mode) 7 (n .1), g .mode) in
-    vector-good b w v g d (t .0) (t .1)))))
+    let t : (2 ≤ b .mode) × (b .mode ≤ 4) = omega (arith, eqb-false (b .mode) 0 e0, eqb-false (b .mode) 1 e1, eqb-false (b .mode) 4 e4, eqb-false (b .mode) 6 e6, eqb-false (b .mode) 5 e5, eqb-false (b .mode) 7 n, g .mode) in
+    vector-good b w v g d (t .0) (t .1))))))
 
 idle-good : (b : Base) → GoodBase b → GoodBeat (idleBeat b)
 unfolding idleBeat commandBeat
@@ -64,8 +64,13 @@ idle-good b g =
     (λ w h. pick-case GoodBeat (b .datastate) (λ d. data-good (ready b) w begun d (ready-usable b u) h) (λ _. control-good (ready b) w begun))))
 
 by-good : (r : Registers) → Good r → (v : Moving) → nextMove (r .motion) (r .base .mode) (r .base .scale) ≡ v → GoodBeat (beatBy (r .base) v)
+unfolding tableBeat routineBeat
 by-good r g Still e = idle-good (r .base) (g .base)
 by-good r g (Going m) e = displaced-good r m g e
+by-good r g (Looks c) e = λ w h. table-good (holdEnded (r .base)) c w (hold-ended-good (r .base) (g .base)) (looks-good r c g e)
+by-good r g (Reads c short at) e =
+    let k = reads-good r c short at g e in
+    λ w h. routine-good (holdEnded (r .base)) c short at w (hold-ended-good (r .base) (g .base)) (k .0) (k .1) h
 
 beat-good : (r : Registers) → Good r → GoodBeat (beat r)
 beat-good r g = by-good r g _ refl

@@ -5,9 +5,12 @@ use mathlib.Core.Bool.{Bool}
 use mathlib.Core.List.{List}
 use Rattle.registers.specs.declared.Base.{Base}
 use Rattle.registers.specs.declared.Motion.{Motion}
-use Rattle.registers.specs.declared.Motion.the-variants.{Nothing, Line, Bytes}
+use Rattle.registers.specs.declared.Motion.the-variants.{Nothing, Line, Bytes, Character}
+use Rattle.registers.specs.declared.Stage.{Stage}
+use Rattle.registers.specs.declared.Stage.the-variants.{Table, Routine, Increments, Short}
+use Rattle.registers.specs.declared.CharacterMotion.{CharacterMotion}
 use Rattle.moves.specs.declared.Moving.the-variants.{Still}
-use Rattle.moves.specs.DataWords.{nextMove}
+use Rattle.moves.specs.DataWords.{characterNext, nextMove}
 use Rattle.loan.specs.declared.Loan.{Loan}
 use Rattle.touches.specs.declared.Got.{Got}
 use Rattle.touches.specs.declared.Got.the-variants.{Word, Not}
@@ -37,9 +40,18 @@ module _ (l : Loan) (m : List ℕ) (room : ℕ) (b : Base) (k : ℕ → Beat) (e
   unfolding roomFor
   idle-not q = ap (roomFor room) (e ∙ walk-not-taken l m (b .address) k (b .held) p q)
 
+-- a character makes a move or fetches
+moving : (c : CharacterMotion) (s : ℕ) (stage : Stage) (m : Motion) → characterNext c s stage ≡ Still → m ≡ Nothing
+unfolding characterNext
+moving c s Table m e = cc
+moving c s (Routine short next) m e = cc
+moving c s (Increments from t) m e = cc
+moving c s (Short from l) m e = cc
+
 -- a display whose motion makes no move has none
 pub still : (m : Motion) (mode scale : ℕ) → nextMove m mode scale ≡ Still → m ≡ Nothing
 unfolding nextMove
 still Nothing mode scale e = refl
 still (Line lastword t) mode scale e = cc
 still (Bytes lastword t) mode scale e = cc
+still (Character c) mode scale e = moving c _ (c .stage) (Character c) e

@@ -3,13 +3,15 @@ ghost use mathlib.Core.Path.{_≡_};
 ghost use mathlib.Core.Bool.{true, false};
 ghost use Rattle.touches.specs.Touches.{Does, whole, walk};
 ghost use Rattle.touches.specs.Said.{said};
-ghost use Rattle.turns.specs.OneTurn.{longBeat, dataBeat, commandBeat, unusable, idleBeat, roomFor, turn};
+ghost use Rattle.turns.specs.OneTurn.{longBeat, dataBeat, commandBeat, unusable, idleBeat, tableBeat, routineBeat, roomFor, turn};
 ghost use Rattle.turns.specs.Drawing.{Drawing};
+use addresses::DisplayAddress;
 use beam::Lit;
 use beam::Outcome;
 use loan::Loan;
 use moves::Moving;
 use registers::Base;
+use registers::CharacterMotion;
 use registers::Registers;
 use touches::Got;
 use touches::Resting;
@@ -57,6 +59,7 @@ fn data_beat(b: Base, word: u16, l: Loan, memory: &[u16], room: usize) -> Turn
     match mode {
         1 => roomed(drawing::increment(b, word), room),
         4 => roomed(drawing::short_vector(b, word), room),
+        5 => roomed(drawing::character(b, word), room),
         6 => roomed(drawing::graphplot(b, word), room),
         _ => long_beat(b, word, l, memory, room),
     }
@@ -75,7 +78,7 @@ fn command_beat(b: Base, word: u16, l: Loan, memory: &[u16], room: usize) -> Tur
 fn unusable(b: Base) -> bool
     ensures { λ r. ⌜ r ≡ unusable b ⌝ }
 {
-    b.datastate & ((b.mode == 5) | (b.mode == 7))
+    b.datastate & (b.mode == 7)
 }
 
 // No motion: a stop request, an unusable mode, or the next data word.
@@ -98,6 +101,40 @@ fn idle_beat(b: Base, l: Loan, memory: &[u16], room: usize) -> Turn
     }
 }
 
+// The beat that fetches a character's table word.
+fn table_beat(b: Base, c: CharacterMotion, l: Loan, memory: &[u16], room: usize) -> Turn
+    ensures { λ r. ⌜ said r ≡ roomFor room (walk l (now (memory .entry)) (tableBeat b c)) ⌝ }
+{
+    match touches::fetched(l, memory, characters::table_address(c, b.starting, b.upper)) {
+        Got::Word(word) => roomed(
+            characters::table_word(control_beats::hold_ended(b), c, word),
+            room,
+        ),
+        Got::Not(why) => Turn::Fails(why),
+    }
+}
+
+// The beat that fetches a word of a character's routine.
+fn routine_beat(
+    b: Base,
+    c: CharacterMotion,
+    short: bool,
+    at: DisplayAddress,
+    l: Loan,
+    memory: &[u16],
+    room: usize,
+) -> Turn
+    ensures { λ r. ⌜ said r ≡ roomFor room (walk l (now (memory .entry)) (routineBeat b c short at)) ⌝ }
+{
+    match touches::fetched(l, memory, at) {
+        Got::Word(word) => roomed(
+            characters::routine_word(control_beats::hold_ended(b), c, short, at, word),
+            room,
+        ),
+        Got::Not(why) => Turn::Fails(why),
+    }
+}
+
 // One turn: the beat, if its touches can be made and there is room for its point. Control words are control_sequence's.
 pub fn turn(r: Registers, l: Loan, memory: &[u16], room: usize) -> Turn
     requires { ⌜ Drawing r ⌝ }
@@ -108,5 +145,7 @@ pub fn turn(r: Registers, l: Loan, memory: &[u16], room: usize) -> Turn
     match moves::next_move(m, b.mode, b.scale) {
         Moving::Going(v) => roomed(moves::displaced(b, v), room),
         Moving::Still => idle_beat(b, l, memory, room),
+        Moving::Looks(c) => table_beat(b, c, l, memory, room),
+        Moving::Reads(c, short, at) => routine_beat(b, c, short, at, l, memory, room),
     }
 }

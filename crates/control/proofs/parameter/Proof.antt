@@ -13,16 +13,11 @@ parameter-spec =
     (λ c κs. search needs)
     (λ c κs. search needs)
     (λ c κs. search needs)
-    (λ c. search needs)
-    (λ c κs. search needs)
-    (λ c κs. search needs)
     (λ c κs. search needs)
     (λ c. rw (
       c .status-set .ensures,
       c .before .after .ensures,
-      c .before .before .pick-u8 .ensures,
-      c .before .before .before .bits .ensures,
-      c .before .before .before .before .bit .ensures,
-      c .before .before .before .before .before .pen-by .ensures,
-      c .before .before .before .before .before .before .scale-by .ensures,
+      c .before .before .intensity-by .ensures,
+      c .before .before .before .pen-by .ensures,
+      c .before .before .before .before .scale-by .ensures,
     )))

@@ -1,5 +1,6 @@
 -- `exports::leave_operation` meets its promise: the reply's case picks. Assumes nothing.
 use borrow.Author.Needs.{needs}
+use Rattle.numbers.proofs.Laid.{row-laid}
 use Rattle.exports.proofs.leave_operation.Statement.{statement}
 use Rattle.exports.proofs.leave_operation.Tie as tie
 
@@ -10,5 +11,6 @@ leave-operation-spec =
     (λ c. search needs)
     (λ c. search needs)
     (λ c κs. search needs)
+    (λ c κs. search needs)
     (λ c. rw (c .enum-told .given .1))
-    (λ c. rw (c .before .enum-told2 .given .1, c .row-of .ensures)))
+    (λ c. rw (c .before .before .before .before .enum-told2 .given .1) (row-laid _ (c .before .before .still-row .ensures) (c .lay .ensures))))

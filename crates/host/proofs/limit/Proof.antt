@@ -15,4 +15,5 @@ limit-spec =
     (λ c. rw (c .match .keys3))
     (λ c. rw (c .match .keys4))
     (λ c. rw (c .match .keys5))
-    (λ c. let k = c .match .rest in rw (ne-eqb _ _ (k .0 .0 .0 .0 .1), ne-eqb _ _ (k .0 .0 .0 .1), ne-eqb _ _ (k .0 .0 .1), ne-eqb _ _ (k .0 .1), ne-eqb _ _ (k .1))))
+    (λ c. rw (c .match .keys6))
+    (λ c. let k = c .match .rest in rw (ne-eqb _ _ (k .0 .0 .0 .0 .0 .1), ne-eqb _ _ (k .0 .0 .0 .0 .1), ne-eqb _ _ (k .0 .0 .0 .1), ne-eqb _ _ (k .0 .0 .1), ne-eqb _ _ (k .0 .1), ne-eqb _ _ (k .1))))

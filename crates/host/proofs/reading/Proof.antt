@@ -15,6 +15,7 @@ reading-spec =
     (λ c κs. search needs)
     (λ c κs. search needs)
     (λ c κs. search needs)
+    (λ c κs. search needs)
     (λ c. rw (c .before .match .keys1) (c .number .ensures))
     (λ c. rw (c .before .match .keys2))
     (λ c. rw (c .before .match .keys3))
@@ -22,7 +23,9 @@ reading-spec =
     (λ c. rw (c .before .match .keys5) (c .status-one .ensures))
     (λ c. rw (c .before .match .keys6) (c .status-two .ensures))
     (λ c. rw (c .match .keys7))
+    (λ c. rw (c .before .match .keys8) (c .generator-word .ensures))
     (λ c. let k = c .match .rest in rw (
+      ne-eqb _ _ (k .0 .0 .0 .0 .0 .0 .0 .1),
       ne-eqb _ _ (k .0 .0 .0 .0 .0 .0 .1),
       ne-eqb _ _ (k .0 .0 .0 .0 .0 .1),
       ne-eqb _ _ (k .0 .0 .0 .0 .1),

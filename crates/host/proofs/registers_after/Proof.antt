@@ -39,6 +39,8 @@ registers-after-spec =
     (λ c κs. search needs)
     (λ c κs. search needs)
     (λ c κs. search needs)
+    (λ c κs. search needs)
+    (λ c κs. search needs)
     (λ c. rw (c .before .before .before .match .keys1, c .with-motion .ensures, c .before .started .ensures, c .before .before .at .ensures))
     (λ c. rw (c .before .before .before .match .keys2, c .with-motion2 .ensures, c .before .pointed .ensures, c .before .before .at2 .ensures))
     (λ c. rw (c .before .before .match .keys3, c .with-motion3 .ensures, c .before .conditioned .ensures))
@@ -52,7 +54,9 @@ registers-after-spec =
     (λ c. rw (c .before .before .match .keys11, c .with-motion11 .ensures, c .before .interrupted2 .ensures))
     (λ c. rw (c .before .before .match .keys12, c .with-motion12 .ensures, c .before .idled .ensures))
     (λ c. rw (c .before .before .match .keys13, c .with-motion13 .ensures, c .before .hits-read .ensures))
+    (λ c. rw (c .before .before .match .keys14, c .with-motion14 .ensures, c .before .generated .ensures))
     (λ c. let k = c .match .rest in rw (
+      ne-eqb _ _ (k .0 .0 .0 .0 .0 .0 .0 .0 .0 .0 .0 .0 .0 .1),
       ne-eqb _ _ (k .0 .0 .0 .0 .0 .0 .0 .0 .0 .0 .0 .0 .1),
       ne-eqb _ _ (k .0 .0 .0 .0 .0 .0 .0 .0 .0 .0 .0 .1),
       ne-eqb _ _ (k .0 .0 .0 .0 .0 .0 .0 .0 .0 .0 .1),

@@ -176,7 +176,9 @@ same-length-3 c = c .before .before .before .before .loop .inv .far .size
 
 returns-3 : tie.Need-returns-3 Inv-loop μ-loop
 returns-3 c = ends (c .before .before .before .before .loop .inv) (c .before .before .before .loop-test .taken) (c .before .before .byte-move .ensures)
-    (λ _ _ e. ⊎-elim (λ z. let w = rw e at z in omega arith) (λ z. let w = rw e at z in omega arith) (c .before .match .keys2)) _ (c .stays3 .ensures)
+    (λ _ _ e. ⊎-elim (λ z. let w = rw e at z in omega arith) (⊎-elim (λ z. let w = rw e at z in omega arith) (λ z. let w = rw e at z in omega arith)) (c .before .match .keys2))
+    _
+    (c .stays3 .ensures)
 
 add-stays-7 : tie.Need-add-stays-7 Inv-loop μ-loop
 add-stays-7 c = record { fits = omega (arith, c .before .loop .inv .far .good .base .x) }

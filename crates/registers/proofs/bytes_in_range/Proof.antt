@@ -1,4 +1,4 @@
--- `registers::bytes_in_range` meets its promise: the tests are the definition's. Assumes nothing.
+-- `registers::bytes_in_range` meets its promise: the counts are the callee's, the test is the definition's. Assumes nothing.
 use borrow.Author.Needs.{needs}
 use Rattle.registers.specs.Registers.{bytesInRange}
 use Rattle.registers.proofs.bytes_in_range.Statement.{statement}
@@ -12,10 +12,4 @@ bytes-in-range-spec =
     (λ c κs. search needs)
     (λ c κs. search needs)
     (λ c κs. search needs)
-    (λ c κs. search needs)
-    (λ c. rw (
-      c .before .before .before .before .escapes .ensures,
-      c .before .before .before .before .before .byte-at2 .ensures,
-      c .before .before .before .before .before .before .moves-asked .ensures,
-      c .before .before .before .before .before .before .before .byte-at .ensures,
-    )))
+    (λ c. rw (c .before .counts-in-range .ensures, c .before .before .escapes .ensures, c .before .before .before .byte-at .ensures)))

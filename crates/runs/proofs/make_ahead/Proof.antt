@@ -78,6 +78,11 @@ returns-3 c =
     rw (moves .before .before .before .motion2 .given .1)
     (ap (λ (s : SequenceLeft). afterMoves s (now (byte-call moves .args .memory))) (moves .byte-moves .ensures))
 
+-- NOTHING OF A CHARACTER
+
+returns-4 : tie.Need-returns-4
+returns-4 c = rw (c .enum-told2 .given .1)
+
 pub make-ahead-spec : {M : Type 1} → statement M
 make-ahead-spec =
     tie.close
@@ -93,8 +98,10 @@ make-ahead-spec =
     byte-moves-requires
     add-t31
     (λ c. search needs)
+    (λ c. search needs)
     returns
     (λ c. search needs)
     returns-2
     (λ c. search needs)
-    returns-3)
+    returns-3
+    returns-4)

@@ -35,6 +35,12 @@ returns c =
 returns-2 : tie.Need-returns-2
 returns-2 c = c .idle-beat .ensures ∙ sym (turned (c .before .before .before) (c .before .enum-told .given .1))
 
+returns-3 : tie.Need-returns-3
+returns-3 c = c .table-beat .ensures ∙ sym (turned (c .before .before .before .before) (c .before .before .c .given .1))
+
+returns-4 : tie.Need-returns-4
+returns-4 c = c .routine-beat .ensures ∙ sym (turned (c .before .before .before .before) (c .before .before .c2 .given .1))
+
 pub turn-spec : {M : Type 1} → statement M
 turn-spec =
     tie.close
@@ -45,5 +51,11 @@ turn-spec =
     (λ c κs. tt)
     (λ c. search needs)
     idle-beat-requires
+    (λ c. search needs)
+    (λ c κs. tt)
+    (λ c. search needs)
+    (λ c κs. tt)
     returns
-    returns-2)
+    returns-2
+    returns-3
+    returns-4)

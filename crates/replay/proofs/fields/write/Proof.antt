@@ -13,8 +13,9 @@ write-spec =
     tie.close
     (tie.spec
     (λ c. search needs)
+    (λ c. search needs)
     (λ c κs. search needs)
-    (λ c. let few : c .used .result ≤ ROW = rw (c .used .ensures) (used-few _) in search needs)
-    (λ c. let few : c .before .used .result ≤ ROW = rw (c .before .used .ensures) (used-few _) in sym (length-take-le _ _ (search needs)))
+    (λ c. let few : c .used .result ≤ ROW = rw (c .used .ensures) (used-few _ _) in search needs)
+    (λ c. let few : c .before .used .result ≤ ROW = rw (c .before .used .ensures) (used-few _ _) in sym (length-take-le _ _ (search needs)))
     (λ c κs. search needs)
     (λ c. search needs))

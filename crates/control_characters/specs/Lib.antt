@@ -1,0 +1,2 @@
+pub mod ControlCharacters
+pub mod Setters

@@ -104,7 +104,8 @@ pub struct Point {
     pub blink: bool,
     /// The address of the last word of the command that lit it, up to 32,767: of the second word in
     /// modes 0, 2 and 3, which is word 0 where the first is word 32,767; of the only word in modes
-    /// 1, 4 and 6. A word that was held counts as one fetched at the display address.
+    /// 1, 4 and 6. Of a character it is the routine word whose move lit the point. A word that was
+    /// held counts as one fetched at the display address.
     pub last_word: u16,
 }
 
@@ -232,8 +233,8 @@ pub fn operate(row: &mut Row, operation: u32, operand: u32) -> Answer {
 /// Runs the display for at most `budget` beats, up to 65,535. The points that it lights stand in
 /// the first entries of `points`, as many as it answers; the rest stays. A memory has [`MEMORY`]
 /// words, each up to 4,095. Where a word is held, the next command uses it and does not fetch the
-/// word at its address; once that command is made, none is held. Second words are always fetched.
-/// Refused as 1, 2, 3 or 4, in this order.
+/// word at its address; once that command is made, none is held. Second words, and the table words
+/// and routine words of characters, are always fetched. Refused as 1, 2, 3 or 4, in this order.
 pub fn run(
     row: &mut Row,
     loan: Loan,

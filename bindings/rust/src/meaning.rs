@@ -38,7 +38,7 @@ fn ending_of(name: &str) -> u32 {
     find(ending::ALL, name).unwrap_or_else(|| panic!("no ending: {name}"))
 }
 
-/// An operation of the table: a name, or a number of 01.
+/// An operation of the table: a name, or a number.
 fn operation_of(text: &str) -> u32 {
     find(operation::ALL, text).unwrap_or_else(|| number(text))
 }

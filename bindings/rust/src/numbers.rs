@@ -23,15 +23,15 @@ macro_rules! names {
 }
 
 names! {
-    /// The places of a row of registers: 27 registers, the kind of motion, and the motion's
+    /// The places of a row of registers: 30 registers, the kind of motion, and the motion's
     /// numbers.
     ///
     /// Each place has its limits here; a number outside them is refusal 4. Refused together, as 4
-    /// too, are only a word where none is held, a motion with a state or a mode that it cannot
-    /// have, and numbers of a motion that do not agree, as said with them. Any other registers go
-    /// together: a display may run with a flag on that stops it, a stopped one may have a stop
-    /// request, a word may be held beside a motion, and the last word of a motion may lie
-    /// anywhere.
+    /// too, are only a word where none is held, a line or bytes with a state or a mode that they
+    /// cannot have, and numbers of a motion that do not agree, as said with them. Any other
+    /// registers go together: a display may run with a flag on that stops it, a stopped one may
+    /// have a stop request, a word may be held beside a motion, a character may be unfinished in
+    /// any state and mode, and the words of a motion may lie anywhere.
     place: usize {
         /// The display address, up to 32,767.
         ADDRESS = 0,
@@ -41,7 +41,7 @@ names! {
         X = 2,
         /// Up to 8,191; on the screen, in sector 0, up to 1,023.
         Y = 3,
-        /// 0 control, 1 data; 1 if there is a motion.
+        /// 0 control, 1 data; 1 with a line or bytes.
         STATE = 4,
         /// Up to 7; with a line 2, 3 or 4, with bytes 1.
         MODE = 5,
@@ -87,40 +87,90 @@ names! {
         HELD = 25,
         /// The held word, up to 4,095; 0 if none is held.
         HELD_WORD = 26,
+        /// 0 or 1; the character generator's case: with 1 a code of six bits is looked up 64 words
+        /// further on.
+        CASE = 27,
+        /// 0 or 1: the next character word has two codes of six bits, or one of seven.
+        CODE_SIZE = 28,
+        /// Up to 63; the character generator's starting address register: its table begins at 512
+        /// times this number.
+        STARTING_ADDRESS = 29,
         /// 0 nothing; 1 a line, only in data state and modes 2, 3, 4; 2 bytes of an increment
-        /// word, only in data state and mode 1. What its kind does not use is not looked at, and
-        /// written 0.
-        MOTION = 27,
+        /// word, only in data state and mode 1; 3 an unfinished character, in any state and mode.
+        /// What its kind does not use is not looked at, and written 0.
+        MOTION = 30,
         /// 0 or 1.
-        LINE_MINUS_Y = 28,
+        LINE_MINUS_Y = 31,
         /// 0 or 1.
-        LINE_MINUS_X = 29,
+        LINE_MINUS_X = 32,
         /// Up to 1,023; not 0 if the other magnitude is.
-        LINE_MAGNITUDE_Y = 30,
+        LINE_MAGNITUDE_Y = 33,
         /// Up to 1,023; not 0 if the other magnitude is.
-        LINE_MAGNITUDE_X = 31,
+        LINE_MAGNITUDE_X = 34,
         /// 01's n: just the larger magnitude, so 1 to 1,023.
-        LINE_MOVES = 32,
+        LINE_MOVES = 35,
         /// 01's k: below n, so up to 1,022.
-        LINE_DONE = 33,
+        LINE_DONE = 36,
         /// 0 or 1.
-        LINE_LIT = 34,
+        LINE_LIT = 37,
         /// 0 or 1.
-        LINE_ESCAPE = 35,
+        LINE_ESCAPE = 38,
         /// The address of the last word of the line's command, up to 32,767; the points of its
         /// moves tell it.
-        LINE_LAST_WORD = 36,
+        LINE_LAST_WORD = 39,
         /// Up to 4,095. Bits 1 and 2 of each of its bytes say the byte's moves: 00 one, and the
         /// byte escapes; 01, 10, 11 one, two, three.
-        BYTES_WORD = 28,
+        BYTES_WORD = 31,
         /// 0 the left byte, 1 the right one, which only if the left byte does not escape.
-        BYTES_SIDE = 29,
+        BYTES_SIDE = 32,
         /// 1 to 3, and no more than the moves of that byte.
-        BYTES_MOVES_LEFT = 30,
+        BYTES_MOVES_LEFT = 33,
         /// The address of the increment word, up to 32,767; the points of its moves tell it.
-        BYTES_LAST_WORD = 31,
+        BYTES_LAST_WORD = 34,
+        /// The character word, up to 4,095. Of one with two codes the left one comes first, and the
+        /// right one as soon as the left one is done.
+        CHARACTER_WORD = 31,
+        /// 0 or 1: it has codes of six bits or of seven, whatever [`CODE_SIZE`] is by now.
+        CHARACTER_SIZE = 32,
+        /// 0 the left character or the only one, 1 the right one, which is the last in either size.
+        CHARACTER_SIDE = 33,
+        /// What comes next: 0 its table word; 1 a word of its routine; 2 a move of an increment
+        /// word of its routine, with the limits of bytes, but the side may be right where the left
+        /// byte escapes, too; 3 a move of a short vector word, with the limits of a line. What its
+        /// stage does not use is not looked at, and written 0.
+        CHARACTER_STAGE = 34,
+        /// 0 increment words, 1 short vector words.
+        ROUTINE_KIND = 35,
+        /// The address of the word that comes next, up to 32,767.
+        ROUTINE_NEXT = 36,
+        /// Up to 4,095.
+        ROUTINE_BYTES_WORD = 35,
+        /// 0 the left byte, 1 the right one.
+        ROUTINE_BYTES_SIDE = 36,
+        /// 1 to 3, and no more than the moves of that byte.
+        ROUTINE_BYTES_MOVES_LEFT = 37,
+        /// The address of the routine word, up to 32,767; the points of its moves tell it.
+        ROUTINE_BYTES_LAST_WORD = 38,
+        /// 0 or 1.
+        ROUTINE_LINE_MINUS_Y = 35,
+        /// 0 or 1.
+        ROUTINE_LINE_MINUS_X = 36,
+        /// Up to 1,023; not 0 if the other magnitude is.
+        ROUTINE_LINE_MAGNITUDE_Y = 37,
+        /// Up to 1,023; not 0 if the other magnitude is.
+        ROUTINE_LINE_MAGNITUDE_X = 38,
+        /// 01's n: just the larger magnitude, so 1 to 1,023.
+        ROUTINE_LINE_MOVES = 39,
+        /// 01's k: below n, so up to 1,022.
+        ROUTINE_LINE_DONE = 40,
+        /// 0 or 1.
+        ROUTINE_LINE_LIT = 41,
+        /// 0 or 1; the escape ends the character.
+        ROUTINE_LINE_ESCAPE = 42,
+        /// The address of the routine word, up to 32,767; the points of its moves tell it.
+        ROUTINE_LINE_LAST_WORD = 43,
         /// How many places there are.
-        ROW = 37,
+        ROW = 44,
     }
 }
 
@@ -173,7 +223,7 @@ names! {
         REGISTERS_OUT_OF_RANGE = 4,
         /// None of [`crate::operation`].
         UNKNOWN_OPERATION = 5,
-        /// Above what the operation takes; of a listing or a reading, a state above 1 or a mode
+        /// None that the operation takes; of a listing or a reading, a state above 1 or a mode
         /// above 7.
         OPERAND_OUT_OF_RANGE = 6,
         /// A text that is no listing of that range from that state and mode; its first wrong line
@@ -190,7 +240,8 @@ names! {
         EXTERNAL_STOP = 13,
         /// Stopped by a move past an edge.
         EDGE = 14,
-        /// Stopped in data state and mode 5 or 7.
+        /// Stopped in data state and mode 7, before a beat; or by a control character of the unused
+        /// fourth form, whose beat counts and ends that character.
         UNUSABLE_MODE = 15,
         /// Still running, before a fetch outside both ranges; if the fetch is a stop's, the request
         /// stays.
@@ -258,11 +309,19 @@ names! {
         /// horizontal edge, internal stop, in sector 0, control state, manual interrupt, either
         /// hit flag, interrupt; 9 to 11: the high bits of the address.
         READ_STATUS_1 = 24,
-        /// Answers status 2. Bit 0: in a right byte; 1: pen enable; 2, 3: the high bits of y and
-        /// x; 4, 5: scale; 6 to 8: mode; 9 to 11: intensity.
+        /// Answers status 2. Bit 0: in a right byte, of a routine too; 1: pen enable; 2, 3: the
+        /// high bits of y and x; 4, 5: scale; 6 to 8: mode; 9 to 11: intensity.
         READ_STATUS_2 = 25,
         /// Answers the 12 buttons, button 0 in bit 0, the leftmost.
         READ_BUTTONS = 26,
+        /// Operand: the character generator's case in bit 3, code size in bit 4, starting address
+        /// register in bits 6 to 11; any other bit, so what is not inside 0677 octal, is refusal 6.
+        /// Sets these three, at any time: case and register hold from the next table word on, the
+        /// size from the next character word on.
+        SET_GENERATOR = 30,
+        /// Answers the character generator's word. Bit 0: data state and mode 5; 1: in a right
+        /// character; 3: case; 4: code size; 6 to 11: starting address register.
+        READ_GENERATOR = 31,
     }
 }
 

@@ -118,8 +118,8 @@ fn operations_are_refused_in_the_order_4_5_6() {
     }
 }
 
-/// A flag of 2, a mode of 256, a word where none is held, a held word of 13 bits, a third kind of
-/// motion, a last word's address of 16 bits: no register can hold them.
+/// A flag of 2, a mode of 256, a word where none is held, a held word of 13 bits, a kind of motion
+/// that there is not, a last word's address of 16 bits: no register can hold them.
 #[test]
 fn a_row_that_does_not_fit_is_refused_as_4() {
     use place::*;
@@ -155,14 +155,16 @@ fn a_row_that_does_not_fit_is_refused_as_4() {
         RUNNING,
         STOP_REQUEST,
         HELD,
+        CASE,
+        CODE_SIZE,
     ];
     let line_flags = [LINE_MINUS_Y, LINE_MINUS_X, LINE_LIT, LINE_ESCAPE];
     for (row, places, number) in [
         (fresh(), &flags[..], 2),
-        (fresh(), &[MODE, SCALE, INTENSITY], 256),
+        (fresh(), &[MODE, SCALE, INTENSITY, STARTING_ADDRESS], 256),
         (fresh(), &[HELD_WORD], 1),
         (with(HELD, 1), &[HELD_WORD], 4_096),
-        (fresh(), &[MOTION], 3),
+        (fresh(), &[MOTION], 4),
         (line, &line_flags, 2),
         (bytes, &[BYTES_SIDE], 2),
         (line, &[LINE_LAST_WORD], 32_768),

@@ -11,12 +11,17 @@ use second::LoanRange;
 
 const CASES: usize = 5_000;
 
-/// How many numbers of a row the format writes: up to the last place of the kind of motion.
-fn written(kind: u16) -> usize {
-    let last = match kind {
-        0 => place::MOTION,
-        1 => place::LINE_LAST_WORD,
-        _ => place::BYTES_LAST_WORD,
+/// How many numbers of a row the format writes: up to the last place of the kind of motion, of a
+/// character that of its stage.
+fn written(row: &Row) -> usize {
+    let last = match (row.0[place::MOTION], row.0[place::CHARACTER_STAGE]) {
+        (0, _) => place::MOTION,
+        (1, _) => place::LINE_LAST_WORD,
+        (2, _) => place::BYTES_LAST_WORD,
+        (_, 0) => place::CHARACTER_STAGE,
+        (_, 1) => place::ROUTINE_NEXT,
+        (_, 2) => place::ROUTINE_BYTES_LAST_WORD,
+        _ => place::ROUTINE_LINE_LAST_WORD,
     };
     last + 1
 }
@@ -29,16 +34,15 @@ fn written_case(case: &Case) -> String {
 /// The row of the registers that a case begins with.
 fn row_of(case: &Case) -> Row {
     let line = written_case(case);
-    let numbers: Vec<u16> = line
-        .split(' ')
-        .skip(1)
-        .take(place::ROW)
-        .map(|number| number.parse().unwrap_or(0))
-        .collect();
-    let count = written(numbers[place::MOTION]);
-    let mut row = [0; place::ROW];
-    row[..count].copy_from_slice(&numbers[..count]);
-    Row(row)
+    let numbers = line.split(' ').skip(1);
+    let mut row = Row([0; place::ROW]);
+    for (place, number) in row.0.iter_mut().zip(numbers) {
+        *place = number.parse().unwrap_or(0);
+    }
+    // Behind the registers stand other numbers of the case.
+    let count = written(&row);
+    row.0[count..].fill(0);
+    row
 }
 
 /// A line of the format: a name, and each number after a space.
@@ -51,7 +55,7 @@ fn line<N: Display>(name: &str, numbers: impl IntoIterator<Item = N>) -> String 
 }
 
 fn registers(row: &Row) -> impl Iterator<Item = u32> + '_ {
-    let count = written(row.0[place::MOTION]);
+    let count = written(row);
     row.0[..count].iter().map(|&number| u32::from(number))
 }
 

@@ -96,6 +96,7 @@ pub fn nothing() -> Asked
     }
 }
 
+#[tactic(auto, unfolding(words::specs::Words::pick))]
 fn picked(on: bool, new: Asked, old: Asked) -> Asked
     ensures { result ≡ pick on new old }
 {
@@ -220,6 +221,7 @@ fn same(s: &[u8], t: &[u8]) -> bool
     true
 }
 
+#[tactic(auto, unfolding(words::specs::Words::pick))]
 fn either(named: bool, new: Waits, old: Waits) -> Waits
     ensures { result ≡ pick named new old }
 {

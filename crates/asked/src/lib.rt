@@ -12,6 +12,7 @@ use runs::Ran;
 use source::Source;
 
 // What is lent: the ranges that were asked for, or else the lesson's own words for fetching.
+#[tactic(auto, unfolding(crate::specs::Asked::lent, words::specs::Words::pick))]
 pub fn lent(a: Asked, s: Source) -> Loan
     ensures { result ≡ lent a s }
 {
@@ -29,6 +30,7 @@ pub fn lent(a: Asked, s: Source) -> Loan
 }
 
 // The display before the run.
+#[tactic(auto, unfolding(crate::specs::Asked::started))]
 pub fn started(a: Asked, s: Source) -> Registers
     ensures { result ≡ started a s }
 {
@@ -39,6 +41,7 @@ pub fn started(a: Asked, s: Source) -> Registers
 }
 
 // The run.
+#[tactic(auto, unfolding(crate::specs::Asked::run))]
 pub fn run(a: Asked, s: Source, memory: &mut [u16], points: &mut [u64]) -> Ran
     ensures { leaves result memory.new points.new ≡ run a s memory.old points.old }
 {

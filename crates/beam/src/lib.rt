@@ -71,6 +71,7 @@ pub fn field_y(b: Base) -> u16
 }
 
 // The point that a beat lights where the beam arrives, with the address of its command's last word.
+#[tactic(auto, unfolding(crate::specs::DataWords::lit_at, words::specs::Words::pick))]
 pub fn lit_at(b: Base, lastword: DisplayAddress, x: u16, y: u16, asked: bool, violated: bool) -> Lit
     ensures { result ≡ lit_at b lastword x y asked violated }
 {
@@ -83,6 +84,7 @@ pub fn lit_at(b: Base, lastword: DisplayAddress, x: u16, y: u16, asked: bool, vi
     }
 }
 
+#[tactic(auto, unfolding(words::specs::Words::pick))]
 fn edge_if(on: bool) -> Stop
     ensures { result ≡ pick on Edge None }
 {
@@ -90,6 +92,7 @@ fn edge_if(on: bool) -> Stop
 }
 
 // The beam where a beat took it: point, graphplot and move beats end here.
+#[tactic(auto, unfolding(crate::specs::DataWords::arrived))]
 pub fn arrived(
     b: Base,
     motion: Motion,
@@ -123,6 +126,7 @@ pub fn arrived(
 }
 
 // The last, still beat of a vector continue.
+#[tactic(auto, unfolding(crate::specs::DataWords::still_end))]
 pub fn still_end(b: Base, escape: bool) -> Outcome
     ensures { result ≡ still_end b escape }
 {

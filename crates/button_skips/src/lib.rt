@@ -7,6 +7,7 @@ ghost use Rattle.button_skips.specs.ControlWords.{skips, changed, with_byte, but
 use registers::Base;
 
 // Whether a word of six buttons makes the display skip: a selected button is 0 or, by sense, 1.
+#[tactic(auto, unfolding(crate::specs::ControlWords::skips))]
 fn skips(buttons: u16, selected: u16, sense: bool) -> bool
     ensures { result ≡ skips buttons selected sense }
 {
@@ -15,6 +16,7 @@ fn skips(buttons: u16, selected: u16, sense: bool) -> bool
 }
 
 // Six buttons, the selected ones cleared, then complemented.
+#[tactic(auto, unfolding(crate::specs::ControlWords::changed))]
 fn changed(buttons: u16, selected: u16, clear: bool, complement: bool) -> u16
     ensures { result ≡ changed buttons selected clear complement }
 {
@@ -23,6 +25,7 @@ fn changed(buttons: u16, selected: u16, clear: bool, complement: bool) -> u16
 }
 
 // A word with its left or its right six bits set.
+#[tactic(auto, unfolding(crate::specs::ControlWords::with_byte))]
 fn with_byte(word: u16, right: bool, byte: u16) -> u16
     ensures { result ≡ with_byte word right byte }
 {
@@ -34,6 +37,7 @@ fn with_byte(word: u16, right: bool, byte: u16) -> u16
 }
 
 // 4 and 5: skip on the selected buttons of bank 1 or, with `second`, of bank 2.
+#[tactic(auto, unfolding(crate::specs::ControlWords::button_skip, skips::specs::ControlWords::skipping))]
 pub fn button_skip(b: Base, word: u16, second: bool) -> Base
     ensures { result ≡ button_skip b word second }
 {
@@ -51,6 +55,7 @@ pub fn button_skip(b: Base, word: u16, second: bool) -> Base
 }
 
 // 60 and 61: skip unless the bank equals bits 6 to 11.
+#[tactic(auto, unfolding(crate::specs::ControlWords::compare, skips::specs::ControlWords::skipping))]
 pub fn compare(b: Base, word: u16, second: bool) -> Base
     ensures { result ≡ compare b word second }
 {

@@ -13,6 +13,7 @@ use registers::Registers;
 use runs::{Answer, Ran};
 
 // An accepted call: a display that is not running makes no turn.
+#[tactic(auto, unfolding(crate::specs::Calls::entered, words::specs::Words::pick))]
 fn enter(r: Registers, l: Loan, memory: &mut [u16], points: &mut [u64], budget: u32) -> Ran
     requires { Good r }
     ensures { leaves result memory.new points.new ≡ left (entered budget l (length points.old) r memory.old) points.old }
@@ -37,6 +38,7 @@ fn refused(r: Registers, number: u8) -> Ran
 }
 
 // A run: refused by the first of 1, 2, 3, 4 that applies, with nothing stored, or run.
+#[tactic(auto, unfolding(crate::specs::Calls::call, words::specs::Words::pick))]
 pub fn call(r: Registers, l: Loan, memory: &mut [u16], points: &mut [u64], budget: u32) -> Ran
     ensures { leaves result memory.new points.new ≡ call budget l r memory.old points.old }
 {

@@ -10,6 +10,7 @@ use beam::Outcome;
 use registers::{Base, ByteMotion, CharacterMotion, Motion, Stage};
 
 // The starting address register as the upper six bits of an address.
+#[tactic(auto, unfolding(crate::specs::Characters::gated))]
 fn gated(starting: u8) -> u16
     ensures { result ≡ gated starting }
 {
@@ -17,6 +18,7 @@ fn gated(starting: u8) -> u16
 }
 
 // The code of a character, with the case before one of six bits.
+#[tactic(auto, unfolding(crate::specs::Characters::code))]
 fn code(c: CharacterMotion, upper: bool) -> u16
     ensures { result ≡ code c upper }
 {
@@ -29,6 +31,7 @@ fn code(c: CharacterMotion, upper: bool) -> u16
 }
 
 // Where the table word of a character lies.
+#[tactic(auto, unfolding(crate::specs::Characters::table_address))]
 pub fn table_address(c: CharacterMotion, starting: u8, upper: bool) -> DisplayAddress
     ensures { result ≡ table_address c starting upper }
 {
@@ -36,6 +39,7 @@ pub fn table_address(c: CharacterMotion, starting: u8, upper: bool) -> DisplayAd
 }
 
 // Where the routine of a dispatch word begins.
+#[tactic(auto, unfolding(crate::specs::Characters::routine_start))]
 fn routine_start(starting: u8, word: u16) -> DisplayAddress
     ensures { result ≡ routine_start starting word }
 {
@@ -43,6 +47,7 @@ fn routine_start(starting: u8, word: u16) -> DisplayAddress
 }
 
 // A table word: a control character, or a dispatch to a routine.
+#[tactic(auto, unfolding(crate::specs::Characters::table_word, words::specs::Words::pick))]
 pub fn table_word(b: Base, c: CharacterMotion, word: u16) -> Outcome
     ensures { result ≡ table_word b c word }
 {
@@ -58,6 +63,7 @@ pub fn table_word(b: Base, c: CharacterMotion, word: u16) -> Outcome
 }
 
 // An increment word of a routine.
+#[tactic(auto, unfolding(crate::specs::Characters::routine_increments))]
 fn routine_increments(c: CharacterMotion, at: DisplayAddress, word: u16) -> Motion
     ensures { result ≡ routine_increments c at word }
 {
@@ -71,6 +77,7 @@ fn routine_increments(c: CharacterMotion, at: DisplayAddress, word: u16) -> Moti
 }
 
 // A short vector word of a routine; one with both magnitudes 0 is over at once.
+#[tactic(auto, unfolding(crate::specs::Characters::routine_short, words::specs::Words::pick))]
 fn routine_short(c: CharacterMotion, at: DisplayAddress, word: u16) -> Motion
     ensures { result ≡ routine_short c at word }
 {
@@ -83,6 +90,7 @@ fn routine_short(c: CharacterMotion, at: DisplayAddress, word: u16) -> Motion
 }
 
 // A word of a routine: its moves are to come.
+#[tactic(auto, unfolding(crate::specs::Characters::routine_word, words::specs::Words::pick))]
 pub fn routine_word(
     b: Base,
     c: CharacterMotion,

@@ -62,12 +62,14 @@ fn mode_set(
 }
 
 // Scale and pen by their enable bits, as words 0, 2 and 3 and the character generator's parameter character share them.
+#[tactic(auto, unfolding(crate::specs::ControlWords::scale_by))]
 pub fn scale_by(word: u16, old: u8) -> u8
     ensures { result ≡ scale_by word old }
 {
     words::pick_u8(words::bit(word, 3), words::bits(word, 4, 5) as u8, old)
 }
 
+#[tactic(auto, unfolding(crate::specs::ControlWords::pen_by))]
 pub fn pen_by(word: u16, old: bool) -> bool
     ensures { result ≡ pen_by word old }
 {
@@ -75,6 +77,7 @@ pub fn pen_by(word: u16, old: bool) -> bool
 }
 
 // Intensity by its enable bit, as word 0 and the parameter character share it.
+#[tactic(auto, unfolding(crate::specs::ControlWords::intensity_by))]
 pub fn intensity_by(word: u16, old: u8) -> u8
     ensures { result ≡ intensity_by word old }
 {
@@ -82,6 +85,7 @@ pub fn intensity_by(word: u16, old: u8) -> u8
 }
 
 // 0: scale, pen, intensity.
+#[tactic(auto, unfolding(crate::specs::ControlWords::parameter))]
 pub fn parameter(b: Base, word: u16) -> Base
     ensures { result ≡ parameter b word }
 {
@@ -101,6 +105,7 @@ pub fn parameter(b: Base, word: u16) -> Base
 }
 
 // A coordinate with its high 3 or its low 10 bits cleared by bits 9 and 10.
+#[tactic(auto, unfolding(crate::specs::ControlWords::coordinate))]
 fn coordinate(word: u16, value: u16) -> u16
     ensures { result ≡ coordinate word value }
 {
@@ -109,6 +114,7 @@ fn coordinate(word: u16, value: u16) -> u16
 }
 
 // 1: stop, hit flags, mode, coordinates, data state.
+#[tactic(auto, unfolding(crate::specs::ControlWords::mode))]
 pub fn mode(b: Base, word: u16) -> Base
     ensures { result ≡ mode b word }
 {
@@ -133,6 +139,7 @@ pub fn mode(b: Base, word: u16) -> Base
 }
 
 // 2: jump to the address of its two words.
+#[tactic(auto, unfolding(crate::specs::ControlWords::jump))]
 pub fn jump(b: Base, word: u16, second: u16) -> Base
     ensures { result ≡ jump b word second }
 {
@@ -152,6 +159,7 @@ pub fn jump(b: Base, word: u16, second: u16) -> Base
 }
 
 // 2, with bit 8: the same, and the pointer goes on by the two words that are stored.
+#[tactic(auto, unfolding(crate::specs::ControlWords::push, crate::specs::ControlWords::jump))]
 pub fn push(b: Base, word: u16, second: u16) -> Base
     ensures { result ≡ push b word second }
 {
@@ -171,6 +179,7 @@ pub fn push(b: Base, word: u16, second: u16) -> Base
 }
 
 // What a push stores first: the return address's break field and the old status.
+#[tactic(auto, unfolding(crate::specs::ControlWords::pushed_first))]
 pub fn pushed_first(b: Base) -> u16
     ensures { result ≡ pushed_first b }
 {
@@ -178,6 +187,7 @@ pub fn pushed_first(b: Base) -> u16
 }
 
 // What it stores next: the return address's low 12 bits.
+#[tactic(auto, unfolding(crate::specs::ControlWords::pushed_second))]
 pub fn pushed_second(b: Base) -> u16
     ensures { result ≡ pushed_second b }
 {
@@ -185,6 +195,7 @@ pub fn pushed_second(b: Base) -> u16
 }
 
 // 3: pop the two words that a push stored; its own scale and pen come after.
+#[tactic(auto, unfolding(crate::specs::ControlWords::pop))]
 pub fn pop(b: Base, word: u16, first: u16, second: u16) -> Base
     ensures { result ≡ pop b word first second }
 {

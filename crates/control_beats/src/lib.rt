@@ -36,6 +36,7 @@ pub fn ready(b: Base) -> Base
     }
 }
 
+#[tactic(auto, unfolding(words::specs::Words::pick))]
 fn internal_if(on: bool) -> Stop
     ensures { result ≡ pick on Internal None }
 {
@@ -57,6 +58,7 @@ fn done(base: Base, stop: Stop) -> Outcome
     }
 }
 
+#[tactic(auto, unfolding(crate::specs::ControlWords::push_act))]
 fn push_act(b: Base, word: u16, second: u16) -> Act
     ensures { result ≡ push_act b word second }
 {
@@ -82,6 +84,7 @@ fn push_act(b: Base, word: u16, second: u16) -> Act
 }
 
 // 2: a jump, or a push.
+#[tactic(auto, unfolding(crate::specs::ControlWords::jump_beat, touches::specs::Touches::walk, touches::specs::Touches::allowed, words::specs::Words::pick))]
 fn jump_beat(b: Base, word: u16, l: Loan, memory: &[u16]) -> Turn
     ensures { said result ≡ walk l memory.now (jump_beat b word) }
 {
@@ -98,6 +101,7 @@ fn jump_beat(b: Base, word: u16, l: Loan, memory: &[u16]) -> Turn
 }
 
 // 3: a pop.
+#[tactic(auto, unfolding(crate::specs::ControlWords::pop_beat, touches::specs::Touches::walk, touches::specs::Touches::allowed))]
 fn pop_beat(b: Base, word: u16, l: Loan, memory: &[u16]) -> Turn
     ensures { said result ≡ walk l memory.now (pop_beat b word) }
 {
@@ -116,6 +120,7 @@ fn pop_beat(b: Base, word: u16, l: Loan, memory: &[u16]) -> Turn
 }
 
 // 6: the words 60 to 67. The slave words 64 to 67 do nothing.
+#[tactic(auto, unfolding(crate::specs::ControlWords::miscellaneous, words::specs::Words::pick))]
 fn miscellaneous(b: Base, word: u16) -> Base
     ensures { result ≡ miscellaneous b word }
 {
@@ -129,6 +134,7 @@ fn miscellaneous(b: Base, word: u16) -> Base
     }
 }
 
+#[tactic(auto, unfolding(crate::specs::ControlWords::control_beat, touches::specs::Touches::walk, touches::specs::Touches::allowed, words::specs::Words::pick))]
 pub fn control_beat(b: Base, word: u16, l: Loan, memory: &[u16]) -> Turn
     ensures { said result ≡ walk l memory.now (control_beat b word) }
 {

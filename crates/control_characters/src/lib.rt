@@ -35,6 +35,7 @@ fn generator_set(
 }
 
 // 100: scale, pen, intensity, as control word 0.
+#[tactic(auto, unfolding(crate::specs::ControlCharacters::parameter))]
 fn parameter(b: Base, word: u16) -> Base
     ensures { result ≡ parameter b word }
 {
@@ -55,6 +56,7 @@ fn parameter(b: Base, word: u16) -> Base
 }
 
 // The starting address register, each half of it by its enable bit.
+#[tactic(auto, unfolding(crate::specs::ControlCharacters::starting_by))]
 fn starting_by(word: u16, old: u8) -> u8
     ensures { result ≡ starting_by word old }
 {
@@ -64,6 +66,7 @@ fn starting_by(word: u16, old: u8) -> u8
 }
 
 // 101: the case, always, and the starting address register.
+#[tactic(auto, unfolding(crate::specs::ControlCharacters::table))]
 fn table(b: Base, word: u16) -> Base
     ensures { result ≡ table b word }
 {
@@ -81,6 +84,7 @@ fn table(b: Base, word: u16) -> Base
 }
 
 // 110: code size, carriage return, escape, counts.
+#[tactic(auto, unfolding(crate::specs::ControlCharacters::miscellaneous))]
 fn miscellaneous(b: Base, word: u16) -> Base
     ensures { result ≡ miscellaneous b word }
 {
@@ -102,6 +106,7 @@ fn miscellaneous(b: Base, word: u16) -> Base
 }
 
 // 111: the display stops, and that character ends.
+#[tactic(auto, unfolding(crate::specs::ControlCharacters::unused))]
 fn unused(b: Base, after: Motion) -> Outcome
     ensures { result ≡ unused b after }
 {
@@ -121,6 +126,7 @@ fn unused(b: Base, after: Motion) -> Outcome
 }
 
 // A control character, by its form. An escape to control state drops the right character.
+#[tactic(auto, unfolding(crate::specs::ControlCharacters::control_character, words::specs::Words::pick))]
 pub fn control_character(b: Base, c: CharacterMotion, word: u16) -> Outcome
     ensures { result ≡ control_character b c word }
 {

@@ -1,6 +1,6 @@
 -- Section 'Data words' of 01: what the command beat of each mode does with its words, in 01's order. Move beats are in moves' file of this name. Assumes
 -- nothing.
-use Rattle.std.specs.Prelude.{ℕ, ◌+◌, ◌*◌, ◌/◌, Bool, true, false, not, ◌&&◌, nat_eq}
+use Rattle.std.specs.Prelude.{ℕ, ◌+◌, ◌*◌, ◌/◌, Bool, true, false, not, nat_eq}
 use Rattle.words.specs.Words.{bit, bits, pick}
 use Rattle.addresses.specs.declared.DisplayAddress.{DisplayAddress}
 use Rattle.addresses.specs.Addresses.{address_after}

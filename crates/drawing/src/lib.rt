@@ -34,6 +34,7 @@ pub fn unlit(base: Base, motion: Motion) -> Outcome
 }
 
 // A coordinate with the ten low bits of a word, unless inhibited.
+#[tactic(auto, unfolding(crate::specs::DataWords::placed))]
 fn placed(word: u16, old: u16, inhibit: bool) -> Reached
     ensures { result ≡ placed word old inhibit }
 {
@@ -45,6 +46,7 @@ fn placed(word: u16, old: u16, inhibit: bool) -> Reached
 }
 
 // Mode 0: y in the first word, x in the second.
+#[tactic(auto, unfolding(crate::specs::DataWords::point))]
 pub fn point(b: Base, word: u16, second: u16) -> Outcome
     ensures { result ≡ point b word second }
 {
@@ -64,6 +66,7 @@ pub fn point(b: Base, word: u16, second: u16) -> Outcome
 }
 
 // Mode 1: the left byte first.
+#[tactic(auto, unfolding(crate::specs::DataWords::increment))]
 pub fn increment(b: Base, word: u16) -> Outcome
     ensures { result ≡ increment b word }
 {
@@ -79,6 +82,7 @@ pub fn increment(b: Base, word: u16) -> Outcome
 }
 
 // The line of a vector's two words.
+#[tactic(auto, unfolding(crate::specs::DataWords::vector_line))]
 fn vector_line(word: u16, second: u16) -> LineMotion
     ensures { result ≡ vector_line word second }
 {
@@ -98,6 +102,7 @@ fn vector_line(word: u16, second: u16) -> LineMotion
 }
 
 // The line of a short vector's word.
+#[tactic(auto, unfolding(crate::specs::DataWords::short_line))]
 pub fn short_line(word: u16) -> LineMotion
     ensures { result ≡ short_line word }
 {
@@ -117,6 +122,7 @@ pub fn short_line(word: u16) -> LineMotion
 }
 
 // A line begins; one with both magnitudes 0 ends at once.
+#[tactic(auto, unfolding(crate::specs::DataWords::begun, words::specs::Words::pick))]
 fn begun(b: Base, address: DisplayAddress, lastword: DisplayAddress, line: LineMotion) -> Outcome
     ensures { result ≡ begun (with_address b address) lastword line }
 {
@@ -134,6 +140,7 @@ fn begun(b: Base, address: DisplayAddress, lastword: DisplayAddress, line: LineM
 }
 
 // Modes 2 and 3: y in the first word, x in the second.
+#[tactic(auto, unfolding(crate::specs::DataWords::vector))]
 pub fn vector(b: Base, word: u16, second: u16) -> Outcome
     ensures { result ≡ vector b word second }
 {
@@ -146,6 +153,7 @@ pub fn vector(b: Base, word: u16, second: u16) -> Outcome
 }
 
 // Mode 4: both in one word.
+#[tactic(auto, unfolding(crate::specs::DataWords::short_vector))]
 pub fn short_vector(b: Base, word: u16) -> Outcome
     ensures { result ≡ short_vector b word }
 {
@@ -153,6 +161,7 @@ pub fn short_vector(b: Base, word: u16) -> Outcome
 }
 
 // Mode 5: one character of seven bits, or two of six, the left one first. The code size is that of this beat.
+#[tactic(auto, unfolding(crate::specs::DataWords::character))]
 pub fn character(b: Base, word: u16) -> Outcome
     ensures { result ≡ character b word }
 {
@@ -167,6 +176,7 @@ pub fn character(b: Base, word: u16) -> Outcome
 }
 
 // Mode 6: one axis moves on, the other is set.
+#[tactic(auto, unfolding(crate::specs::DataWords::graphplot, words::specs::Words::pick))]
 pub fn graphplot(b: Base, word: u16) -> Outcome
     ensures { result ≡ graphplot b word }
 {

@@ -35,6 +35,7 @@ pub struct EndingNumbers {
 }
 
 // The registers of a display that rests.
+#[tactic(auto, unfolding(crate::specs::Endings::rested))]
 pub fn rested(r: Registers, resting: Resting) -> Registers
     ensures { result ≡ rested r resting }
 {
@@ -61,6 +62,7 @@ pub fn rested(r: Registers, resting: Resting) -> Registers
     }
 }
 
+#[tactic(auto, unfolding(crate::specs::Endings::rest_ending))]
 pub fn rest_ending(resting: Resting) -> Ending
     ensures { result ≡ rest_ending resting }
 {
@@ -71,6 +73,7 @@ pub fn rest_ending(resting: Resting) -> Ending
 }
 
 // A beat that stops the display ends the run.
+#[tactic(auto, unfolding(crate::specs::Endings::halted))]
 pub fn halted(stop: Stop) -> Halt
     ensures { result ≡ halted stop }
 {
@@ -88,6 +91,7 @@ fn numbers(number: u8, address: u16) -> EndingNumbers
     EndingNumbers { number, address }
 }
 
+#[tactic(auto, unfolding(crate::specs::Endings::why_numbers))]
 fn why_numbers(why: Why) -> EndingNumbers
     ensures { result ≡ why_numbers why }
 {
@@ -99,6 +103,7 @@ fn why_numbers(why: Why) -> EndingNumbers
     }
 }
 
+#[tactic(auto, unfolding(crate::specs::Endings::ending_numbers))]
 pub fn ending_numbers(ending: Ending) -> EndingNumbers
     ensures { result ≡ ending_numbers ending }
 {

@@ -22,6 +22,7 @@ pub struct Operated {
 }
 
 // Whether there is an operation of this number.
+#[tactic(auto, unfolding(crate::specs::HostOperations::known))]
 fn known(operation: u32) -> bool
     ensures { result ≡ known operation }
 {
@@ -31,6 +32,7 @@ fn known(operation: u32) -> bool
 }
 
 // The largest operand that an operation takes.
+#[tactic(auto, unfolding(crate::specs::HostOperations::limit, words::specs::Words::pick))]
 fn limit(operation: u32) -> u32
     ensures { result ≡ limit operation }
 {
@@ -46,6 +48,7 @@ fn limit(operation: u32) -> u32
 }
 
 // Whether an operation takes an operand: 30 has one more bit that is no register's, bit 5.
+#[tactic(auto, unfolding(crate::specs::HostOperations::taken))]
 fn taken(operation: u32, operand: u32) -> bool
     ensures { result ≡ taken operation operand }
 {
@@ -60,6 +63,7 @@ fn with_motion(base: Base, motion: Motion) -> Registers
 }
 
 // The registers after an operation. Start and clear end the motion.
+#[tactic(auto, unfolding(crate::specs::HostOperations::registers_after, words::specs::Words::pick))]
 fn registers_after(r: Registers, operation: u32, operand: u16) -> Registers
     ensures { result ≡ registers_after r operation operand }
 {
@@ -88,6 +92,7 @@ fn registers_after(r: Registers, operation: u32, operand: u16) -> Registers
 }
 
 // The word that an operation answers.
+#[tactic(auto, unfolding(crate::specs::HostOperations::reading, words::specs::Words::pick))]
 fn reading(r: Registers, operation: u32) -> u16
     ensures { result ≡ reading r operation }
 {
@@ -115,6 +120,7 @@ fn refused(r: Registers, number: u8) -> Operated
     }
 }
 
+#[tactic(auto, unfolding(crate::specs::HostOperations::done))]
 fn done(r: Registers, operation: u32, operand: u16) -> Operated
     ensures { result ≡ done r operation operand }
 {
@@ -127,6 +133,7 @@ fn done(r: Registers, operation: u32, operand: u16) -> Operated
 }
 
 // An operation on the registers: refused by the first of 4, 5, 6 that applies, or done.
+#[tactic(auto, unfolding(crate::specs::HostOperations::operate, words::specs::Words::pick))]
 pub fn operate(r: Registers, operation: u32, operand: u32) -> Operated
     ensures { result ≡ operate r operation operand }
 {

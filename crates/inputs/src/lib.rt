@@ -20,6 +20,7 @@ pub fn pen_lit(b: Base) -> Base
 }
 
 // 8: press a button, 0 to 11.
+#[tactic(auto, unfolding(crate::specs::HostOperations::pressed))]
 pub fn pressed(b: Base, button: u16) -> Base
     ensures { result ≡ pressed b button }
 {
@@ -32,6 +33,7 @@ pub fn pressed(b: Base, button: u16) -> Base
 }
 
 // 9: clear the buttons of group 0 or 1.
+#[tactic(auto, unfolding(crate::specs::HostOperations::group_cleared))]
 pub fn group_cleared(b: Base, group: u16) -> Base
     ensures { result ≡ group_cleared b group }
 {

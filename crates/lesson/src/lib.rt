@@ -9,12 +9,14 @@ use loan::Loan;
 use registers::Registers;
 
 // The memory before any line, and the point list before the run. Arrays of their own functions, so that no other proof has them written out.
+#[tactic(auto, unfolding(crate::specs::Lesson::blank))]
 fn blank() -> [u16; 32768]
     ensures { result ≡ blank }
 {
     [0; 32768]
 }
 
+#[tactic(auto, unfolding(crate::specs::Lesson::room))]
 fn room() -> [u64; 1024]
     ensures { result ≡ room }
 {
@@ -22,6 +24,7 @@ fn room() -> [u64; 1024]
 }
 
 // A fresh display, started.
+#[tactic(auto, unfolding(crate::specs::Lesson::begun))]
 fn begun(address: u16) -> Registers
     ensures { result ≡ begun address }
 {
@@ -30,8 +33,8 @@ fn begun(address: u16) -> Registers
 
 // Runs the memory from an address, and writes what the display lit and how it ended.
 fn play(address: u16, memory: &mut [u16; 32768], text: &mut [u8], place: usize) -> usize
-    ensures text_after { filled result text.new ≡ puts (told (played address memory.old)) (filled place text.old) }
-    ensures memory_len_bound { length (told (played address memory.old)) ≤ 30745 }
+    ensures written { filled result text.new ≡ puts (told (played address memory.old)) (filled place text.old) }
+    ensures short { length (told (played address memory.old)) ≤ 30745 }
 {
     let mut points = room();
     let all = Loan {

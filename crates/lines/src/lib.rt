@@ -13,6 +13,7 @@ pub fn is_octal(byte: u8) -> bool
     (48 <= byte) & (byte <= 55)
 }
 
+#[tactic(auto, unfolding(crate::specs::Lines::octals))]
 fn octals(input: &[u8], at: usize) -> bool
     requires { at + 4 ≤ length input.now }
     ensures { result ≡ octals input.now at }
@@ -23,6 +24,7 @@ fn octals(input: &[u8], at: usize) -> bool
         & is_octal(input[at + 3])
 }
 
+#[tactic(auto, unfolding(crate::specs::Lines::is_line, words::specs::Words::pick))]
 fn is_line(input: &[u8], at: usize) -> bool
     requires { at ≤ 45056 }
     ensures { result ≡ is_line input.now at }
@@ -45,6 +47,7 @@ pub fn digit(byte: u8) -> u16
     (byte % 8) as u16
 }
 
+#[tactic(auto, unfolding(crate::specs::Lines::four))]
 fn four(input: &[u8], at: usize) -> u16
     requires { at + 4 ≤ length input.now }
     ensures { result ≡ four input.now at }
@@ -55,6 +58,7 @@ fn four(input: &[u8], at: usize) -> u16
         + digit(input[at + 3])
 }
 
+#[tactic(auto, unfolding(crate::specs::Lines::address))]
 fn address(input: &[u8], at: usize) -> u16
     requires { at + 11 ≤ length input.now }
     ensures { result ≡ address input.now at }
@@ -77,6 +81,7 @@ pub fn read(input: &[u8], memory: &mut [u16; 32768]) -> usize
 }
 
 // The first line's address.
+#[tactic(auto, unfolding(crate::specs::Lines::start, words::specs::Words::pick))]
 pub fn start(input: &[u8]) -> u16
     ensures { result ≡ start input.now }
 {

@@ -2,7 +2,7 @@
 -- as octal only. Assumes nothing.
 use Rattle.std.specs.Prelude.{ℕ, Bool, true, false, not, ◌&&◌, ◌||◌, List, [], ◌∷◌, ◌++◌, nat_eq}
 use Rattle.words.specs.Words.{bit, bits, pick}
-use Rattle.registers.specs.Registers.{byte_at, escapes as byteEscapes}
+use Rattle.registers.specs.Registers.{byte_at, escapes as byte_escapes}
 use Rattle.text.specs.Text.{octal_word, octal_address}
 use Rattle.mnemonics.specs.Mnemonics.{mnemonics}
 use Rattle.listed_lines.specs.declared.Standing.{Standing}
@@ -24,7 +24,7 @@ long mode = nat_eq mode 0 || nat_eq mode 2 || nat_eq mode 3
 -- a command's last word escapes by either byte in mode 1, by bit 6 in mode 4, else by bit 0 (manual 2.2)
 unfoldable pub escapes : ℕ → ℕ → Bool
 escapes mode w =
-    pick (nat_eq mode 1) (byteEscapes (byte_at w false) || byteEscapes (byte_at w true)) (pick (nat_eq mode 4) (bit w 6) (bit w 0))
+    pick (nat_eq mode 1) (byte_escapes (byte_at w false) || byte_escapes (byte_at w true)) (pick (nat_eq mode 4) (bit w 6) (bit w 0))
 
 -- behind a word of data
 unfoldable pub drawn : Standing → ℕ → Standing

@@ -27,6 +27,7 @@ fn long(mode: u8) -> bool
 }
 
 // Whether a command's last word escapes to control state.
+#[tactic(auto, unfolding(crate::specs::ListedLines::escapes, words::specs::Words::pick))]
 fn escapes(mode: u8, word: u16) -> bool
     ensures { result ≡ escapes mode word }
 {
@@ -41,6 +42,7 @@ fn escapes(mode: u8, word: u16) -> bool
 }
 
 // Behind a word of data state.
+#[tactic(auto, unfolding(crate::specs::ListedLines::drawn, words::specs::Words::pick))]
 fn drawn(s: Standing, word: u16) -> Standing
     ensures { result ≡ drawn s word }
 {
@@ -63,6 +65,7 @@ fn drawn(s: Standing, word: u16) -> Standing
 }
 
 // Behind the first word of a control command.
+#[tactic(auto, unfolding(crate::specs::ListedLines::obeyed))]
 fn obeyed(s: Standing, word: u16) -> Standing
     ensures { result ≡ obeyed s word }
 {
@@ -88,6 +91,7 @@ impl Standing {
     }
 
     // Behind a word.
+    #[tactic(auto, unfolding(crate::specs::ListedLines::after, words::specs::Words::pick))]
     pub fn after(self, word: u16) -> Standing
         ensures { result ≡ after self word }
     {
@@ -113,6 +117,7 @@ impl Standing {
 }
 
 // What a line shows of a word behind its octal digits.
+#[tactic(auto, unfolding(text::specs::Text::puts, words::specs::Words::pick))]
 fn put_shown(word: u16, shown: bool, text: &mut [u8], place: usize) -> usize
     ensures { filled result text.new ≡ puts (fields_of word shown) (filled place text.old) }
 {

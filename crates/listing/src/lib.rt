@@ -38,6 +38,7 @@ struct Measured {
 }
 
 // The numbers of an answer.
+#[tactic(auto, unfolding(crate::specs::Listing::numbered))]
 pub fn numbered(answer: Listed) -> ListingNumbers
     ensures { result ≡ numbered answer }
 {
@@ -56,6 +57,7 @@ pub fn numbered(answer: Listed) -> ListingNumbers
 }
 
 // The first refusal of 1, 3 and 6 that applies, or 0.
+#[tactic(auto, unfolding(crate::specs::Listing::refusal, words::specs::Words::pick))]
 pub fn refusal(words: usize, low: u16, high: u16, state: u8, mode: u8) -> u8
     ensures { result ≡ refusal words low high state mode }
 {

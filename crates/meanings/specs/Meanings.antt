@@ -2,7 +2,6 @@
 -- caused it. Assumes nothing.
 use Rattle.std.specs.Prelude.{ℕ, ◌%◌, Bool, List, [], ◌∷◌, ◌++◌, nat_eq}
 use Rattle.words.specs.Words.{pick}
-use Rattle.addresses.specs.declared.DisplayAddress.{DisplayAddress}
 use Rattle.registers.specs.declared.Registers.{Registers}
 use Rattle.touches.specs.declared.Why.{Why}
 use Rattle.touches.specs.declared.Why.TheVariants.{Fetch, Store, Wide, Full}

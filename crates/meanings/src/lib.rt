@@ -11,6 +11,7 @@ use registers::Registers;
 use runs::Answer;
 use touches::Why;
 
+#[tactic(auto, unfolding(crate::specs::Meanings::edges, words::specs::Words::pick, text::specs::Text::bytes))]
 fn put_edges(vertical: bool, horizontal: bool, text: &mut [u8], place: usize) -> usize
     ensures { filled result text.new ≡ puts (edges vertical horizontal) (filled place text.old) }
 {
@@ -40,6 +41,7 @@ fn put_touch(
     text::put_all(behind, text, addressed)
 }
 
+#[tactic(auto, unfolding(crate::specs::Meanings::failure, text::specs::Text::bytes))]
 fn put_full(points: usize, text: &mut [u8], place: usize) -> usize
     ensures { filled result text.new ≡ puts (failure Why.Full points) (filled place text.old) }
 {
@@ -48,6 +50,7 @@ fn put_full(points: usize, text: &mut [u8], place: usize) -> usize
     text::put_all(b" points", text, counted)
 }
 
+#[tactic(auto, unfolding(crate::specs::Meanings::failure, text::specs::Text::bytes))]
 fn put_failure(why: Why, points: usize, text: &mut [u8], place: usize) -> usize
     ensures { filled result text.new ≡ puts (failure why points) (filled place text.old) }
 {
@@ -59,6 +62,7 @@ fn put_failure(why: Why, points: usize, text: &mut [u8], place: usize) -> usize
     }
 }
 
+#[tactic(auto, unfolding(crate::specs::Meanings::meaning, text::specs::Text::bytes))]
 fn put_edge_stop(vertical: bool, horizontal: bool, text: &mut [u8], place: usize) -> usize
     ensures { filled result text.new ≡ puts (meaning Ending.EdgeStop 0 vertical horizontal) (filled place text.old) }
 {
@@ -66,6 +70,7 @@ fn put_edge_stop(vertical: bool, horizontal: bool, text: &mut [u8], place: usize
     put_edges(vertical, horizontal, text, named)
 }
 
+#[tactic(auto, unfolding(crate::specs::Meanings::meaning, text::specs::Text::bytes))]
 fn put_meaning(
     ending: Ending,
     points: usize,
@@ -94,6 +99,7 @@ fn put_meaning(
 }
 
 // The word that the fence stopped, if the run ended there.
+#[tactic(auto, unfolding(text::specs::Text::puts, crate::specs::Meanings::stopped_at, words::specs::Words::pick, text::specs::Text::bytes))]
 fn put_stopped(told: EndingNumbers, text: &mut [u8], place: usize) -> usize
     ensures { filled result text.new ≡ puts (stopped_at told) (filled place text.old) }
 {
@@ -105,6 +111,7 @@ fn put_stopped(told: EndingNumbers, text: &mut [u8], place: usize) -> usize
     }
 }
 
+#[tactic(auto, unfolding(crate::specs::Meanings::beats_told, words::specs::Words::pick, text::specs::Text::bytes))]
 fn put_beats(beats: u32, text: &mut [u8], place: usize) -> usize
     ensures { filled result text.new ≡ puts (beats_told beats) (filled place text.old) }
 {
@@ -116,6 +123,7 @@ fn put_beats(beats: u32, text: &mut [u8], place: usize) -> usize
     }
 }
 
+#[tactic(auto, unfolding(crate::specs::Meanings::ended_sentence, text::specs::Text::bytes))]
 fn put_ended(
     ending: Ending,
     beats: u32,
@@ -138,6 +146,7 @@ fn put_ended(
 }
 
 // The answer of a run, and the registers that it left.
+#[tactic(auto, unfolding(crate::specs::Meanings::sentence, text::specs::Text::bytes))]
 pub fn put_sentence(answer: Answer, r: Registers, text: &mut [u8], place: usize) -> usize
     ensures { filled result text.new ≡ puts (sentence answer r) (filled place text.old) }
 {

@@ -80,6 +80,7 @@ struct Pattern {
     kinds: u16,
 }
 
+#[tactic(auto, unfolding(crate::specs::Mnemonics::rows))]
 fn row_at(i: usize) -> Pattern
     requires { i < 55 }
     ensures { result ≡ (row_at i).pattern }
@@ -93,6 +94,7 @@ fn row_at(i: usize) -> Pattern
 }
 
 // The kind of a control word, from 0 to 11.
+#[tactic(auto, unfolding(crate::specs::Mnemonics::kind, words::specs::Words::pick))]
 fn kind(word: u16) -> u16
     ensures { result ≡ kind word }
 {
@@ -110,6 +112,7 @@ fn kind(word: u16) -> u16
 }
 
 // Whether a mnemonic stands on the line of a word.
+#[tactic(auto, unfolding(crate::specs::Mnemonics::applies))]
 fn applies(p: Pattern, word: u16) -> bool
     ensures { result ≡ applies p word }
 {
@@ -117,6 +120,7 @@ fn applies(p: Pattern, word: u16) -> bool
 }
 
 // One byte of a name; spaces only fill it up.
+#[tactic(auto, unfolding(crate::specs::Mnemonics::letters, text::specs::Text::puts, words::specs::Words::pick))]
 fn put_letter(byte: u8, text: &mut [u8], place: usize) -> usize
     ensures { filled result text.new ≡ puts (letters (byte ∷ [])) (filled place text.old) }
 {
@@ -168,6 +172,7 @@ fn put_names(word: u16, text: &mut [u8], place: usize) -> usize
 }
 
 // What is left of a word's bits by a mnemonic that stands on its line.
+#[tactic(auto, unfolding(crate::specs::Mnemonics::uncovered, words::specs::Words::pick))]
 fn uncovered(p: Pattern, word: u16, left: u16) -> u16
     ensures { result ≡ uncovered p word left }
 {
@@ -192,6 +197,7 @@ pub fn rest(word: u16) -> u16
 }
 
 // A space and the rest in octal, unless it is 0.
+#[tactic(auto, unfolding(crate::specs::Mnemonics::rest_field, text::specs::Text::puts, words::specs::Words::pick))]
 fn put_rest(left: u16, text: &mut [u8], place: usize) -> usize
     ensures { filled result text.new ≡ puts (rest_field left) (filled place text.old) }
 {

@@ -57,6 +57,7 @@ pub const ROUTINE_KIND: usize = STAGE + 1;
 pub const ROUTINE_NEXT: usize = STAGE + 2;
 
 // How many numbers of a row a kind of motion uses, with its stage.
+#[tactic(auto, unfolding(crate::specs::MotionNumbers::used, crate::specs::MotionNumbers::used_at, words::specs::Words::pick))]
 pub fn used(kind: u16, stage: u16) -> usize
     ensures { result ≡ used kind stage }
 {
@@ -85,6 +86,7 @@ fn line_fits(row: [u16; ROW], before: usize) -> bool
 }
 
 // Whether the stage is one of the four, and the flags of that stage are 0 or 1.
+#[tactic(auto, unfolding(crate::specs::MotionNumbers::stage_fits, words::specs::Words::pick))]
 fn stage_fits(row: [u16; ROW]) -> bool
     ensures { result ≡ stage_fits row }
 {
@@ -98,6 +100,7 @@ fn stage_fits(row: [u16; ROW]) -> bool
 }
 
 // Whether the kind is one of the four, and the flags of its motion are 0 or 1.
+#[tactic(auto, unfolding(crate::specs::MotionNumbers::motion_fits, words::specs::Words::pick))]
 pub fn motion_fits(row: [u16; ROW]) -> bool
     ensures { result ≡ motion_fits row }
 {
@@ -138,6 +141,7 @@ fn bytes_of(row: [u16; ROW], before: usize) -> ByteMotion
 }
 
 // The stage of a row's character: one that there is not is that of the table word.
+#[tactic(auto, unfolding(crate::specs::MotionNumbers::stage_of, words::specs::Words::pick))]
 fn stage_of(row: [u16; ROW]) -> Stage
     ensures { result ≡ stage_of row }
 {
@@ -171,6 +175,7 @@ fn character_of(row: [u16; ROW]) -> CharacterMotion
 }
 
 // The motion of a row: a kind that there is not gives none.
+#[tactic(auto, unfolding(crate::specs::MotionNumbers::motion_of, words::specs::Words::pick))]
 pub fn motion_of(row: [u16; ROW]) -> Motion
     ensures { result ≡ motion_of row }
 {
@@ -216,6 +221,7 @@ fn lay_bytes(lastword: DisplayAddress, t: ByteMotion, before: usize, row: &mut [
 }
 
 // Lays a stage and its numbers.
+#[tactic(auto, unfolding(crate::specs::MotionNumbers::stage_numbers))]
 fn lay_stage(stage: Stage, row: &mut [u16; ROW])
     ensures { row.new ≡ sets row.old STAGE (stage_numbers stage) }
 {
@@ -240,6 +246,7 @@ fn lay_stage(stage: Stage, row: &mut [u16; ROW])
 }
 
 // Lays the kind of a motion and its numbers into a row, and leaves every other place as it was.
+#[tactic(auto, unfolding(crate::specs::MotionNumbers::laid, crate::specs::MotionNumbers::motion_numbers))]
 pub fn lay(motion: Motion, row: &mut [u16; ROW])
     ensures { row.new ≡ laid motion row.old }
 {

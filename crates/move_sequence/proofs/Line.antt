@@ -36,7 +36,7 @@ use Rattle.moves.specs.declared.Move.{Move}
 use Rattle.moves.specs.declared.Moving.TheVariants.{Going}
 use Rattle.moves.specs.DataWords.{with_done, line_next, line_move, next_move, moved_x, moved_y}
 use Rattle.moves.proofs.Kept.{waits}
-use Rattle.move_sequence.specs.PlainMoves.{goes_on, plain, sequence}
+use Rattle.move_sequence.specs.PlainMoves.{goes_on, plain}
 use Rattle.move_sequence.proofs.Plain.{onto, at, tested, Shown, Put, Far, spent, violates, fills, goes}
 
 -- the registers with the beam at x and y and k moves of the line done

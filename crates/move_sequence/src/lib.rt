@@ -34,6 +34,7 @@ fn stays(b: Base, x: u16, y: u16, motion: Motion, place: usize, left: u32) -> Se
 }
 
 // How many of a line's moves may be done before its last, by the limit.
+#[tactic(auto, unfolding(words::specs::Words::pick))]
 fn end(done: u16, moves: u16, limit: u32) -> u16
     requires { (done < moves) × (moves ≤ 1023) }
     ensures { result ≡ pick (nat_lt limit (moves - 1 - done)) (done + limit) (moves - 1) }
@@ -47,6 +48,7 @@ fn end(done: u16, moves: u16, limit: u32) -> u16
 }
 
 // What is left over of a reach once it has passed twice the moves.
+#[tactic(auto, unfolding(words::specs::Words::pick))]
 fn left_over(reach: u32, twice: u32) -> u32
     ensures { result ≡ pick (nat_le twice reach) (reach - twice) reach }
 {

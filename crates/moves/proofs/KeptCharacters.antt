@@ -1,6 +1,6 @@
 -- A move of a character's routine word keeps registers in range, whatever the state and the mode; and so every move beat does. What a character fetches for is in
 -- range. Assumes nothing.
-use Prim.Native.Nat.{ℕ, ◌+◌, ◌≤◌, ◌<◌}
+use Prim.Native.Nat.{ℕ, ◌+◌, ◌<◌}
 use mathlib.Core.Path.{◌≡◌}
 use mathlib.Core.Bool.{Bool, true, false, ◌||◌}
 use native.Mathlib.Nat.{le_refl}

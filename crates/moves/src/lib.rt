@@ -34,6 +34,7 @@ pub enum Moving {
 }
 
 // A line after one more move.
+#[tactic(auto, unfolding(crate::specs::DataWords::line_next, words::specs::Words::pick))]
 fn line_next(lastword: DisplayAddress, l: LineMotion, continues: bool) -> Motion
     ensures { result ≡ line_next lastword l continues }
 {
@@ -53,6 +54,7 @@ fn line_next(lastword: DisplayAddress, l: LineMotion, continues: bool) -> Motion
     }
 }
 
+#[tactic(auto, unfolding(crate::specs::DataWords::line_move))]
 fn line_move(lastword: DisplayAddress, l: LineMotion, distance: u8, continues: bool) -> Move
     ensures { result ≡ line_move lastword l distance continues }
 {
@@ -74,6 +76,7 @@ fn line_move(lastword: DisplayAddress, l: LineMotion, distance: u8, continues: b
 }
 
 // Increment bytes after one more move.
+#[tactic(auto, unfolding(crate::specs::DataWords::byte_next, words::specs::Words::pick))]
 fn byte_next(lastword: DisplayAddress, t: ByteMotion, escape: bool) -> Motion
     ensures { result ≡ byte_next lastword t escape }
 {
@@ -131,6 +134,7 @@ const DIRECTIONS: [u8; 8] = [
 ];
 
 // The direction of a byte: the row that its last three bits tell.
+#[tactic(auto, unfolding(words::specs::Words::pick, words::proofs::Tables::values))]
 fn directed(byte: u16) -> Direction
     ensures { result ≡ record { right = rightward (byte % 8); up = upward (byte % 8); left = leftward (byte % 8); down = downward (byte % 8) } }
 {
@@ -143,6 +147,7 @@ fn directed(byte: u16) -> Direction
     }
 }
 
+#[tactic(auto, unfolding(crate::specs::DataWords::byte_move))]
 pub fn byte_move(lastword: DisplayAddress, t: ByteMotion, distance: u8) -> Move
     ensures { result ≡ byte_move lastword t distance }
 {
@@ -173,6 +178,7 @@ pub fn at_stage(c: CharacterMotion, stage: Stage) -> Motion
 }
 
 // The motion behind a character: the right one behind the left one of two, or none.
+#[tactic(auto, unfolding(crate::specs::DataWords::after_character, words::specs::Words::pick))]
 pub fn after_character(c: CharacterMotion) -> Motion
     ensures { result ≡ after_character c }
 {
@@ -188,6 +194,7 @@ pub fn after_character(c: CharacterMotion) -> Motion
 }
 
 // The motion behind a routine word: an escape ends the character, else the next word of the routine follows.
+#[tactic(auto, unfolding(crate::specs::DataWords::after_routine_word, words::specs::Words::pick))]
 pub fn after_routine_word(
     c: CharacterMotion,
     short: bool,
@@ -204,6 +211,7 @@ pub fn after_routine_word(
 }
 
 // The motion behind a move of a routine word: its other moves, if there are any.
+#[tactic(auto, unfolding(crate::specs::DataWords::routine_next))]
 fn routine_next(
     c: CharacterMotion,
     short: bool,
@@ -222,6 +230,7 @@ fn routine_next(
 }
 
 // A move of a routine word. Its escape ends the character and not the mode.
+#[tactic(auto, unfolding(crate::specs::DataWords::routine_move))]
 fn routine_move(c: CharacterMotion, short: bool, m: Move) -> Move
     ensures { result ≡ routine_move c short m }
 {
@@ -237,6 +246,7 @@ fn routine_move(c: CharacterMotion, short: bool, m: Move) -> Move
 }
 
 // What an unfinished character does next.
+#[tactic(auto, unfolding(crate::specs::DataWords::character_next))]
 fn character_next(c: CharacterMotion, distance: u8) -> Moving
     ensures { result ≡ character_next c distance c.stage }
 {
@@ -254,6 +264,7 @@ fn character_next(c: CharacterMotion, distance: u8) -> Moving
 }
 
 // The next move of a motion.
+#[tactic(auto, unfolding(crate::specs::DataWords::next_move))]
 pub fn next_move(m: Motion, mode: u8, scale: u8) -> Moving
     ensures { result ≡ next_move m mode scale }
 {
@@ -270,6 +281,7 @@ pub fn next_move(m: Motion, mode: u8, scale: u8) -> Moving
 }
 
 // A move made. A vector continue ends, still, where it would violate.
+#[tactic(auto, unfolding(crate::specs::DataWords::displaced, words::specs::Words::pick))]
 pub fn displaced(b: Base, m: Move) -> Outcome
     ensures { result ≡ displaced b m }
 {

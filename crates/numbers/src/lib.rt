@@ -127,6 +127,7 @@ fn narrow_fit(row: [u16; ROW]) -> bool
 }
 
 // Whether every number of a row is one that its register can hold.
+#[tactic(auto, unfolding(crate::specs::Numbers::fits))]
 pub fn fits(row: [u16; ROW]) -> bool
     ensures { result ≡ fits row }
 {
@@ -134,6 +135,7 @@ pub fn fits(row: [u16; ROW]) -> bool
 }
 
 // The held word of a row.
+#[tactic(auto, unfolding(crate::specs::Numbers::held_of, words::specs::Words::pick))]
 fn held_of(row: [u16; ROW]) -> Held
     ensures { result ≡ held_of row }
 {
@@ -205,6 +207,7 @@ fn unfit() -> Registers
 }
 
 // The registers of a row. A row that does not fit gives registers out of range, so that every call refuses it as 4, in that refusal's turn.
+#[tactic(auto, unfolding(crate::specs::Numbers::registers_of, words::specs::Words::pick))]
 pub fn registers_of(row: [u16; ROW]) -> Registers
     ensures { result ≡ registers_of row }
 {

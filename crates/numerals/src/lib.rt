@@ -27,6 +27,7 @@ fn is_digit(base: u32, byte: u8) -> bool
 }
 
 // The number with one digit more.
+#[tactic(auto, unfolding(crate::specs::Numerals::grown, words::specs::Words::pick))]
 fn grown(base: u32, n: Numeral, byte: u8) -> Numeral
     requires { (base ≤ 10) × (n.value ≤ 1000000) }
     ensures { result ≡ grown base n byte }
@@ -86,6 +87,7 @@ fn hyphen(s: &[u8]) -> usize
     i
 }
 
+#[tactic(auto, unfolding(crate::specs::Numerals::ordered))]
 fn ordered(low: Numeral, high: Numeral) -> Bounds
     ensures { result ≡ ordered low high }
 {

@@ -67,6 +67,7 @@ fn resumed(b: Base, pen: bool, hold: bool) -> Base
 }
 
 // 4: resume, if stopped.
+#[tactic(auto, unfolding(crate::specs::HostOperations::resume, words::specs::Words::pick))]
 pub fn resume(b: Base) -> Base
     ensures { result ≡ resume b }
 {
@@ -80,6 +81,7 @@ pub fn resume(b: Base) -> Base
 }
 
 // 5: clear.
+#[tactic(auto, unfolding(crate::specs::HostOperations::cleared))]
 pub fn cleared(b: Base) -> Base
     ensures { result ≡ cleared b }
 {

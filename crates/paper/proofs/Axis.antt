@@ -1,6 +1,6 @@
 -- A coordinate as the loops of moves carry it: the low bits that a move changes, and apart from them the upper ones that it keeps. Once over the axis and over
 -- d. Assumes nothing.
-use Rattle.std.proofs.Common.{◌≡◌, ℕ, ◌+◌, ◌-◌, ◌*◌, ◌/◌, ◌%◌, ◌^◌, ◌<◌, ◌≤◌, Bool, sym, ap, ◌∙◌, lt_of_lt_of_le, add-zero, mod-lt, mod-eq_of_lt, div-add-mod', arith, pow_pos, pow_mono}
+use Rattle.std.proofs.Common.{◌≡◌, ℕ, ◌+◌, ◌-◌, ◌*◌, ◌/◌, ◌%◌, ◌^◌, ◌<◌, ◌≤◌, Bool, ap, ◌∙◌, lt_of_lt_of_le, add-zero, mod-eq_of_lt, div-add-mod', arith, pow_pos, pow_mono}
 use native.Mathlib.Nat.{div-eq_of_lt, mul-add-mod_self_right, mul-add-div_right}
 use Rattle.paper.specs.declared.Reached.{Reached}
 use Rattle.paper.specs.DataWords.{dimension, moved}

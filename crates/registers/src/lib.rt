@@ -117,6 +117,7 @@ pub struct Registers {
 }
 
 // The larger of two magnitudes: a line's number of moves.
+#[tactic(auto, unfolding(crate::specs::Registers::larger))]
 pub fn larger(one: u16, other: u16) -> u16
     ensures { result ≡ larger one other }
 {
@@ -124,6 +125,7 @@ pub fn larger(one: u16, other: u16) -> u16
 }
 
 // The left or the right byte of an increment word.
+#[tactic(auto, unfolding(crate::specs::Registers::byte_at))]
 pub fn byte_at(word: u16, right: bool) -> u16
     ensures { result ≡ byte_at word right }
 {
@@ -131,6 +133,7 @@ pub fn byte_at(word: u16, right: bool) -> u16
 }
 
 // How many moves a byte asks.
+#[tactic(auto, unfolding(crate::specs::Registers::moves_asked))]
 pub fn moves_asked(byte: u16) -> u16
     ensures { result ≡ moves_asked byte }
 {
@@ -139,12 +142,14 @@ pub fn moves_asked(byte: u16) -> u16
 }
 
 // Whether a byte escapes.
+#[tactic(auto, unfolding(crate::specs::Registers::escapes))]
 pub fn escapes(byte: u16) -> bool
     ensures { result ≡ escapes byte }
 {
     byte / 8 % 4 == 0
 }
 
+#[tactic(auto, unfolding(crate::specs::Registers::held_in_range))]
 fn held_in_range(h: Held) -> bool
     ensures { result ≡ held_in_range h }
 {
@@ -154,6 +159,7 @@ fn held_in_range(h: Held) -> bool
     }
 }
 
+#[tactic(auto, unfolding(crate::specs::Registers::numbers_in_range))]
 fn numbers_in_range(b: Base) -> bool
     ensures { result ≡ numbers_in_range b }
 {
@@ -171,6 +177,7 @@ fn numbers_in_range(b: Base) -> bool
         & held_in_range(held)
 }
 
+#[tactic(auto, unfolding(crate::specs::Registers::line_in_range))]
 fn line_in_range(l: LineMotion) -> bool
     ensures { result ≡ line_in_range l }
 {
@@ -181,6 +188,7 @@ fn line_in_range(l: LineMotion) -> bool
         & (l.done < l.moves)
 }
 
+#[tactic(auto, unfolding(crate::specs::Registers::counts_in_range))]
 fn counts_in_range(t: ByteMotion) -> bool
     ensures { result ≡ counts_in_range t }
 {
@@ -188,6 +196,7 @@ fn counts_in_range(t: ByteMotion) -> bool
     (t.word < 4096) & (1 <= t.moves) & (t.moves <= asked)
 }
 
+#[tactic(auto, unfolding(crate::specs::Registers::bytes_in_range))]
 fn bytes_in_range(t: ByteMotion) -> bool
     ensures { result ≡ bytes_in_range t }
 {
@@ -195,6 +204,7 @@ fn bytes_in_range(t: ByteMotion) -> bool
     counts_in_range(t) & !(t.right & dropped)
 }
 
+#[tactic(auto, unfolding(crate::specs::Registers::stage_in_range))]
 fn stage_in_range(s: Stage) -> bool
     ensures { result ≡ stage_in_range s }
 {
@@ -206,6 +216,7 @@ fn stage_in_range(s: Stage) -> bool
     }
 }
 
+#[tactic(auto, unfolding(crate::specs::Registers::character_in_range))]
 fn character_in_range(c: CharacterMotion) -> bool
     ensures { result ≡ character_in_range c }
 {
@@ -213,6 +224,7 @@ fn character_in_range(c: CharacterMotion) -> bool
     (c.word < 4096) & stage_in_range(stage)
 }
 
+#[tactic(auto, unfolding(crate::specs::Registers::motion_in_range))]
 fn motion_in_range(m: Motion, datastate: bool, mode: u8) -> bool
     ensures { result ≡ motion_in_range m datastate mode }
 {
@@ -229,6 +241,7 @@ fn motion_in_range(m: Motion, datastate: bool, mode: u8) -> bool
 }
 
 // Whether the registers are in range: a call whose registers are not gets refusal 4.
+#[tactic(auto, unfolding(crate::specs::Registers::in_range))]
 pub fn in_range(r: Registers) -> bool
     ensures { result ≡ in_range r }
 {

@@ -14,6 +14,8 @@ use Rattle.loan.specs.declared.Loan.{Loan}
 use Rattle.touches.specs.declared.Act.{Act}
 use Rattle.touches.specs.declared.Resting.{Resting}
 use Rattle.touches.specs.declared.Why.{Why}
+use Rattle.touches.specs.declared.Turn.{Turn as Told}
+use Rattle.touches.specs.Said.{said}
 use Rattle.touches.specs.Touches.{Fails, Rests, Does, store}
 use Rattle.beam.specs.DataWords.{points}
 use Rattle.turns.specs.OneTurn.{turn}
@@ -122,6 +124,10 @@ module _ {l : Loan} {m₀ ps₀ : List ℕ} {k : ℕ} {r₀ : Registers} {m ps :
     one : run (k - b) l (length ps₀ - n) r m ≡ onward (run (k - (b + 1)) l) (length ps₀ - n) r m (turn l (length ps₀ - n) r m)
     unfolding run
     one = let e : k - b ≡ suc (k - (b + 1)) = omega (arith, w.some) in rw e
+
+    -- what the code made of the turn is the definition's
+    pub turn_told : (t : Told) → said t ≡ turn l (length ps - n) r m → turn l (length ps₀ - n) r m ≡ said t
+    turn_told t e = rw (← length-drawn w.far) (sym e)
 
     pub fails : {why : Why} → turn l (length ps₀ - n) r m ≡ Fails why → Far l m₀ ps₀ k r₀ m ps r b n (ended r m (Failed why))
     fails q = rw (one, q) at w.far

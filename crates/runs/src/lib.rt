@@ -5,7 +5,7 @@ ghost use Rattle.std.specs.Prelude.{◌≡◌, ◌+◌, ◌≤◌, length};
 ghost use Rattle.std.proofs.lemmas.List.Edits.{sets};
 ghost use Rattle.registers.specs.Good.{Good};
 ghost use Rattle.beam.specs.DataWords.{points as points_of};
-ghost use Rattle.runs.specs.Ahead.{make_ahead, leaves as aheadLeaves};
+ghost use Rattle.runs.specs.Ahead.{make_ahead, leaves as ahead_leaves};
 ghost use Rattle.runs.specs.Runs.{run, left, leaves};
 
 use beam::Lit;
@@ -61,7 +61,7 @@ fn make_ahead(
     limit: u32,
 ) -> Ahead
     requires { Good r × (place ≤ length points.old) × (1 ≤ limit) }
-    ensures { aheadLeaves result memory.new points.new ≡ make_ahead limit l r memory.old points.old place }
+    ensures { ahead_leaves result memory.new points.new ≡ make_ahead limit l r memory.old points.old place }
 {
     let motion = r.motion;
     let b = r.base;

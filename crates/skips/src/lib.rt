@@ -8,6 +8,7 @@ ghost use Rattle.skips.specs.Setters.{skip_set, count_set};
 use addresses::DisplayAddress;
 use registers::Base;
 
+#[tactic(auto, unfolding(crate::specs::ControlWords::skipping))]
 pub fn skip_set(b: Base, skip: bool, buttons: u16, sense: bool, idle: bool) -> Base
     ensures { result ≡ skip_set b skip buttons sense idle }
 {
@@ -34,6 +35,7 @@ fn count_set(b: Base, address: DisplayAddress, scale: u8, intensity: u8, blink: 
 }
 
 // A word that does nothing is passed.
+#[tactic(auto, unfolding(crate::specs::ControlWords::skipping))]
 pub fn passed(b: Base) -> Base
     ensures { result ≡ skipping b false }
 {
@@ -41,6 +43,7 @@ pub fn passed(b: Base) -> Base
 }
 
 // Whether a condition that word 62 asks holds.
+#[tactic(auto, unfolding(crate::specs::ControlWords::flag_skips))]
 fn flag_skips(b: Base, word: u16) -> bool
     ensures { result ≡ flag_skips b word }
 {
@@ -53,6 +56,7 @@ fn flag_skips(b: Base, word: u16) -> bool
 }
 
 // 62: skip on flags, then clear LPSI.
+#[tactic(auto, unfolding(crate::specs::ControlWords::flag_skip, crate::specs::ControlWords::skipping))]
 pub fn flag_skip(b: Base, word: u16) -> Base
     ensures { result ≡ flag_skip b word }
 {
@@ -62,6 +66,7 @@ pub fn flag_skip(b: Base, word: u16) -> Base
 }
 
 // One up, or down, stopping at the ends.
+#[tactic(auto, unfolding(crate::specs::ControlWords::counted, words::specs::Words::pick))]
 pub fn counted(value: u8, top: u8, on: bool, down: bool) -> u8
     ensures { result ≡ counted value top on down }
 {
@@ -77,6 +82,7 @@ pub fn counted(value: u8, top: u8, on: bool, down: bool) -> u8
 }
 
 // 63: count scale and intensity, blink on, then off.
+#[tactic(auto, unfolding(crate::specs::ControlWords::count))]
 pub fn count(b: Base, word: u16) -> Base
     ensures { result ≡ count b word }
 {
@@ -94,6 +100,7 @@ pub fn count(b: Base, word: u16) -> Base
 }
 
 // 7: skip if idle is on, then clear it.
+#[tactic(auto, unfolding(crate::specs::ControlWords::sync, crate::specs::ControlWords::skipping))]
 pub fn sync(b: Base, word: u16) -> Base
     ensures { result ≡ sync b word }
 {

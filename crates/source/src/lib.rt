@@ -29,6 +29,7 @@ fn at_rest(place: u8) -> bool
     (place == 0) | (place == 10)
 }
 
+#[tactic(auto, unfolding(crate::specs::Source::after_digit, words::specs::Words::pick))]
 fn after_digit(place: u8, byte: u8) -> u8
     ensures { result ≡ after_digit place byte }
 {
@@ -39,6 +40,7 @@ fn after_digit(place: u8, byte: u8) -> u8
     }
 }
 
+#[tactic(auto, unfolding(crate::specs::Source::after_comment, words::specs::Words::pick))]
 fn after_comment(place: u8, byte: u8) -> u8
     ensures { result ≡ after_comment place byte }
 {
@@ -49,6 +51,7 @@ fn after_comment(place: u8, byte: u8) -> u8
     }
 }
 
+#[tactic(auto, unfolding(crate::specs::Source::next))]
 fn next(place: u8, byte: u8) -> u8
     ensures { result ≡ next place byte }
 {
@@ -90,6 +93,7 @@ fn word_with(word: u16, byte: u8) -> u16
 }
 
 // The word is whole.
+#[tactic(auto, unfolding(crate::specs::Source::noted))]
 fn noted(s: Source) -> Source
     ensures { result ≡ noted s }
 {
@@ -108,6 +112,7 @@ fn fills(s: Source, byte: u8) -> bool
     (s.place == 9) & lines::is_octal(byte)
 }
 
+#[tactic(auto, unfolding(crate::specs::Source::moved))]
 fn moved(s: Source, byte: u8) -> Source
     ensures { result ≡ moved s byte }
 {
@@ -123,6 +128,7 @@ fn moved(s: Source, byte: u8) -> Source
 }
 
 // One byte more, for who reads without a memory.
+#[tactic(auto, unfolding(words::specs::Words::pick))]
 pub fn step(s: Source, byte: u8) -> Source
     ensures { result ≡ step s byte }
 {
@@ -131,6 +137,7 @@ pub fn step(s: Source, byte: u8) -> Source
 }
 
 // Lays the word that a byte makes whole into the memory.
+#[tactic(auto, unfolding(words::specs::Words::pick))]
 fn lay(s: Source, byte: u8, memory: &mut [u16; 32768])
     ensures { memory.new ≡ laid s byte memory.old }
 {

@@ -8,6 +8,7 @@ ghost use Rattle.status.specs.FlagAt.{FlagAt};
 use registers::{Base, Motion, Stage};
 
 // The weight of a flag in a word, or 0 where the flag is off. That it is no more than the weight keeps the sums below small.
+#[tactic(auto, unfolding(words::specs::Words::pick))]
 pub fn flag_at(on: bool, weight: u16) -> u16
     ensures { FlagAt on weight result }
 {
@@ -22,6 +23,7 @@ pub fn settings(b: Base) -> u16
 }
 
 // Whether one of the six flags is on and reaches the interrupt line.
+#[tactic(auto, unfolding(crate::specs::Status::interrupts))]
 fn interrupts(b: Base) -> bool
     ensures { result ≡ interrupts b }
 {
@@ -37,6 +39,7 @@ fn interrupts(b: Base) -> bool
         | b.internal & internal
 }
 
+#[tactic(auto, unfolding(crate::specs::Status::status_one))]
 pub fn status_one(b: Base) -> u16
     ensures { result ≡ status_one b }
 {
@@ -55,6 +58,7 @@ pub fn status_one(b: Base) -> u16
 }
 
 // Whether the right byte of a routine's increment word is under way.
+#[tactic(auto, unfolding(crate::specs::Status::stage_byte_flag))]
 fn stage_byte_flag(s: Stage) -> bool
     ensures { result ≡ stage_byte_flag s }
 {
@@ -67,6 +71,7 @@ fn stage_byte_flag(s: Stage) -> bool
 }
 
 // Whether the right byte of an increment word is under way.
+#[tactic(auto, unfolding(crate::specs::Status::byte_flag))]
 fn byte_flag(m: Motion) -> bool
     ensures { result ≡ byte_flag m }
 {
@@ -81,6 +86,7 @@ fn byte_flag(m: Motion) -> bool
     }
 }
 
+#[tactic(auto, unfolding(crate::specs::Status::status_two))]
 pub fn status_two(b: Base, m: Motion) -> u16
     ensures { result ≡ status_two b m }
 {
@@ -92,6 +98,7 @@ pub fn status_two(b: Base, m: Motion) -> u16
 }
 
 // Whether a right character is under way.
+#[tactic(auto, unfolding(crate::specs::Status::right_character))]
 fn right_character(m: Motion) -> bool
     ensures { result ≡ right_character m }
 {
@@ -104,6 +111,7 @@ fn right_character(m: Motion) -> bool
 }
 
 // The character generator's word.
+#[tactic(auto, unfolding(crate::specs::Status::generator_word))]
 pub fn generator_word(b: Base, m: Motion) -> u16
     ensures { result ≡ generator_word b m }
 {

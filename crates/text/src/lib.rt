@@ -4,6 +4,7 @@
 ghost use Rattle.std.specs.Prelude.{◌≡◌, [], ◌∷◌, ◌≤◌};
 ghost use Rattle.text.specs.Text.{filled, puts, figure, decimal, number, octal, octal_digit, octal_word, octal_address};
 
+#[tactic(auto, unfolding(crate::specs::Text::puts, crate::specs::Text::put, words::specs::Words::pick))]
 pub fn put(byte: u8, text: &mut [u8], place: usize) -> usize
     ensures { filled result text.new ≡ puts (byte ∷ []) (filled place text.old) }
 {
@@ -28,6 +29,7 @@ pub fn put_all(bytes: &[u8], text: &mut [u8], place: usize) -> usize
 }
 
 // One figure of a number in a base, by its weight: none where the number is smaller.
+#[tactic(auto, unfolding(crate::specs::Text::figure, crate::specs::Text::puts, words::specs::Words::pick))]
 fn put_figure(base: u32, value: u32, weight: u32, text: &mut [u8], place: usize) -> usize
     requires { (1 ≤ base) × (base ≤ 10) × (1 ≤ weight) }
     ensures { filled result text.new ≡ puts (figure base value weight) (filled place text.old) }

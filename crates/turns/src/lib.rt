@@ -16,6 +16,7 @@ use touches::{Got, Resting, Turn, Why};
 
 // A beat that stores nothing, if there is room for its point. Every beat asks for room where it is made: then nothing needs the registers before it any more,
 // and they can be changed in place.
+#[tactic(auto, unfolding(crate::specs::OneTurn::room_for, words::specs::Words::pick))]
 fn roomed(c: Outcome, room: usize) -> Turn
     ensures { said result ≡ room_for room (Does (whole c)) }
 {
@@ -33,6 +34,7 @@ fn roomed(c: Outcome, room: usize) -> Turn
 }
 
 // The data words of two words: a point, or a vector of either kind.
+#[tactic(auto, unfolding(crate::specs::OneTurn::long_beat, crate::specs::OneTurn::room_for, touches::specs::Touches::walk, touches::specs::Touches::allowed, words::specs::Words::pick))]
 fn long_beat(b: Base, word: u16, l: Loan, memory: &[u16], room: usize) -> Turn
     ensures { said result ≡ room_for room (walk l memory.now (long_beat b word)) }
 {
@@ -48,6 +50,7 @@ fn long_beat(b: Base, word: u16, l: Loan, memory: &[u16], room: usize) -> Turn
     }
 }
 
+#[tactic(auto, unfolding(crate::specs::OneTurn::data_beat, touches::specs::Touches::walk, touches::specs::Touches::allowed, words::specs::Words::pick))]
 fn data_beat(b: Base, word: u16, l: Loan, memory: &[u16], room: usize) -> Turn
     ensures { said result ≡ room_for room (walk l memory.now (data_beat b word)) }
 {
@@ -62,6 +65,7 @@ fn data_beat(b: Base, word: u16, l: Loan, memory: &[u16], room: usize) -> Turn
 }
 
 // The beat of a data word: a command in data state.
+#[tactic(auto, unfolding(words::specs::Words::pick))]
 fn command_beat(b: Base, word: u16, l: Loan, memory: &[u16], room: usize) -> Turn
     requires { b.datastate ≡ true }
     ensures { said result ≡ room_for room (walk l memory.now (command_beat b word)) }
@@ -71,6 +75,7 @@ fn command_beat(b: Base, word: u16, l: Loan, memory: &[u16], room: usize) -> Tur
 }
 
 // Data state in a mode that the display has not.
+#[tactic(auto, unfolding(crate::specs::OneTurn::unusable))]
 fn unusable(b: Base) -> bool
     ensures { result ≡ unusable b }
 {
@@ -98,6 +103,7 @@ fn idle_beat(b: Base, l: Loan, memory: &[u16], room: usize) -> Turn
 }
 
 // The beat that fetches a character's table word.
+#[tactic(auto, unfolding(crate::specs::OneTurn::table_beat, crate::specs::OneTurn::room_for, touches::specs::Touches::walk, touches::specs::Touches::allowed))]
 fn table_beat(b: Base, c: CharacterMotion, l: Loan, memory: &[u16], room: usize) -> Turn
     ensures { said result ≡ room_for room (walk l memory.now (table_beat b c)) }
 {
@@ -111,6 +117,7 @@ fn table_beat(b: Base, c: CharacterMotion, l: Loan, memory: &[u16], room: usize)
 }
 
 // The beat that fetches a word of a character's routine.
+#[tactic(auto, unfolding(crate::specs::OneTurn::routine_beat, crate::specs::OneTurn::room_for, touches::specs::Touches::walk, touches::specs::Touches::allowed))]
 fn routine_beat(
     b: Base,
     c: CharacterMotion,
@@ -132,6 +139,7 @@ fn routine_beat(
 }
 
 // One turn: the beat, if its touches can be made and there is room for its point. Control words are control_sequence's.
+#[tactic(auto, unfolding(crate::specs::OneTurn::turn, touches::specs::Touches::walk, touches::specs::Touches::allowed))]
 pub fn turn(r: Registers, l: Loan, memory: &[u16], room: usize) -> Turn
     requires { Drawing r }
     ensures { said result ≡ turn l room r memory.now }

@@ -19,7 +19,7 @@ use Rattle.listing.specs.declared.Listed.TheVariants.{Refused, Done}
 use Rattle.listing.specs.Listing.{lines_of, text, good, refusal, ListLeft, leaves, listed}
 use Rattle.listing.proofs.Unrefused.{unrefused}
 use Rattle.unlisting.specs.declared.Reading.TheVariants.{Refused as Unread, NotInForm, Done as Accepted}
-use Rattle.unlisting.specs.Unlisting.{begins, word_in, Words, words, read_lines, ReadLeft, leaves as readLeaves, reading}
+use Rattle.unlisting.specs.Unlisting.{begins, word_in, Words, words, read_lines, ReadLeft, leaves as read_leaves, reading}
 use Rattle.unlisting.proofs.Beginnings.{begins_line, begins_split}
 
 -- ONE LINE
@@ -154,7 +154,7 @@ taken s m low high state mode =
 
 -- what was listed reads back, in any memory
 pub back : (m n : List ℕ) (low high state mode : ℕ) (t : List ℕ) (k : ℕ) → (listed m low high state mode t).answer ≡ Done k → length n ≡ 32768 →
-    reading (take k (listed m low high state mode t).text) n low high state mode ≡ readLeaves Accepted (sets n low (slice low high m))
+    reading (take k (listed m low high state mode t).text) n low high state mode ≡ read_leaves Accepted (sets n low (slice low high m))
 unfolding reading pick
 back m n low high state mode t k e size =
     let d = made m low high state mode t k e in
@@ -192,7 +192,7 @@ only s m low high state mode t e h =
 
 -- and where it was listed from, nothing changes
 pub same : (m : List ℕ) (low high state mode : ℕ) (t : List ℕ) (k : ℕ) → (listed m low high state mode t).answer ≡ Done k →
-    reading (take k (listed m low high state mode t).text) m low high state mode ≡ readLeaves Accepted m
+    reading (take k (listed m low high state mode t).text) m low high state mode ≡ read_leaves Accepted m
 same m low high state mode t k e =
     let u = unrefused (length m) low high state mode (made m low high state mode t k e).unrefused in
-    back m m low high state mode t k e u.size ∙ ap (readLeaves Accepted) (sets_slice m low high u.rising (omega (arith, u.size, u.inside)))
+    back m m low high state mode t k e u.size ∙ ap (read_leaves Accepted) (sets_slice m low high u.rising (omega (arith, u.size, u.inside)))

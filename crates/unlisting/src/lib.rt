@@ -33,6 +33,7 @@ struct Lines {
 }
 
 // The numbers of an answer.
+#[tactic(auto, unfolding(crate::specs::Unlisting::numbered))]
 pub fn numbered(answer: Reading) -> ListingNumbers
     ensures { result ≡ numbered answer }
 {
@@ -84,6 +85,7 @@ fn digit_at(text: &[u8], at: usize) -> u16
 }
 
 // The word that the digits of a line make.
+#[tactic(auto, unfolding(lines::specs::Lines::four))]
 fn word_in(text: &[u8]) -> u16
     ensures { result ≡ word_in text.now }
 {
@@ -105,6 +107,7 @@ fn line_in(text: &[u8], address: u16, shown: bool) -> Found
 }
 
 // Lays a word into the memory, where that is asked for.
+#[tactic(auto, unfolding(crate::specs::Passes::laid_if, words::specs::Words::pick))]
 fn lay(laying: bool, memory: &mut [u16], address: u16, word: u16)
     ensures { memory.new ≡ laid_if laying memory.old address (word ∷ []) }
 {

@@ -2,9 +2,10 @@
 // the old words lent too, and with all of memory lent, it shows what the fence keeps.
 #![tactic(auto)]
 
-use libc::STDOUT_FILENO;
 use loan::Loan;
 use runs::Ran;
+use std::io;
+use std::io::Print;
 
 // The exercise lies at 1000o, the class's pushdown list at 7000o, and the recovered character table, 64 words of it, behind the list at 7100o.
 const EXERCISE: usize = 512;
@@ -17,9 +18,14 @@ const TABLE: usize = 3648;
 
 const TABLE_END: usize = 3712;
 
+// A memory before anything is laid in it. It is made in a function of its own, so that what is proved of the caller says nothing of each of its words.
+fn blank() -> [u16; 32768] {
+    [0u16; 32768]
+}
+
 // A memory with the exercise, the old words and the table.
 fn laid_out() -> [u16; 32768] {
-    let mut memory = [0u16; 32768];
+    let mut memory = blank();
     // Point mode, a lit point at (512, 512), escape; then the clearing of the hit flags, and no stop.
     memory[EXERCISE] = 0o1107;
     memory[EXERCISE + 1] = 0o5000;
@@ -51,60 +57,71 @@ fn damaged(memory: &[u16; 32768]) -> u64 {
 }
 
 // Says how the run ended, in words, and what it did to the character table.
-fn tell(ran: Ran, changed: u64) {
+fn tell(out: &impl Print, ran: Ran, changed: u64) -> io::Result<()> {
     let answer = ran.answer;
     let left = ran.registers;
     let mut line = [0u8; 128];
     let length = meanings::put_sentence(answer, left, &mut line, 0);
     if length <= 128 {
-        io::write_all(STDOUT_FILENO, &line[..length]);
+        console::write(out, &line[..length])?;
     }
-    io::write_all(STDOUT_FILENO, b"  ");
-    io::print_decimal(STDOUT_FILENO, calls::numbered(answer).points as u64);
-    io::write_all(STDOUT_FILENO, b" point lit, ");
-    io::print_decimal(STDOUT_FILENO, changed);
-    io::write_all(
-        STDOUT_FILENO,
-        b" words of the character table overwritten\n",
-    );
+    console::write(out, b"  ")?;
+    console::write_decimal(out, calls::numbered(answer).points as u64)?;
+    console::write(out, b" point lit, ")?;
+    console::write_decimal(out, changed)?;
+    console::write(out, b" words of the character table overwritten\n")
 }
 
 // Starts a fresh display at the exercise, with the pushdown list where the class's begins, and runs it with a loan.
-fn tried(lent: Loan) {
+fn tried(out: &impl Print, lent: Loan) -> io::Result<()> {
     let mut memory = laid_out();
     let mut points = [0u64; 16];
     let started = host::operate(registers::fresh(), 1, 512).registers;
     let ready = host::operate(started, 2, LIST as u32).registers;
     let ran = calls::call(ready, lent, &mut memory, &mut points, 70);
-    tell(ran, damaged(&memory));
+    tell(out, ran, damaged(&memory))
 }
 
-fn main() {
-    io::write_all(
-        STDOUT_FILENO,
+// Tells of the exercise under three loans.
+fn show(out: &impl Print) -> io::Result<()> {
+    console::write(
+        out,
         b"With the class's loan (file 1000o to 1005o, list 7000o to 7100o):\n  ",
-    );
-    tried(Loan {
-        filelow: 512,
-        filehigh: 517,
-        listlow: 3584,
-        listhigh: 3648,
-    });
-    io::write_all(
-        STDOUT_FILENO,
+    )?;
+    tried(
+        out,
+        Loan {
+            filelow: 512,
+            filehigh: 517,
+            listlow: 3584,
+            listhigh: 3648,
+        },
+    )?;
+    console::write(
+        out,
         b"With the old words lent too (file 1000o to 1007o, the same list):\n  ",
-    );
-    tried(Loan {
-        filelow: 512,
-        filehigh: 519,
-        listlow: 3584,
-        listhigh: 3648,
-    });
-    io::write_all(STDOUT_FILENO, b"With all of memory lent:\n  ");
-    tried(Loan {
-        filelow: 0,
-        filehigh: 32768,
-        listlow: 0,
-        listhigh: 32768,
-    });
+    )?;
+    tried(
+        out,
+        Loan {
+            filelow: 512,
+            filehigh: 519,
+            listlow: 3584,
+            listhigh: 3648,
+        },
+    )?;
+    console::write(out, b"With all of memory lent:\n  ")?;
+    tried(
+        out,
+        Loan {
+            filelow: 0,
+            filehigh: 32768,
+            listlow: 0,
+            listhigh: 32768,
+        },
+    )
+}
+
+fn main(rt: HostRuntime) -> io::Result<()> {
+    console::ended(show(&rt))
 }

@@ -10,110 +10,146 @@ ghost use Rattle.std.specs.Prelude.{◌≡◌, length};
 
 use arguments::{Asked, Shown, Waits};
 use endings::Ending;
-use libc::STDOUT_FILENO;
 use runs::{Answer, Ran};
 use source::Source;
+use std::env::Env;
+use std::io;
+use std::io::Print;
 
 // A lesson may have this many bytes and not one more, with its comments.
 const LONGEST: usize = 262144;
 
 type Memory = [u16; 32768];
 
+// Memory before anything is read into it, and a list of as many points as a run may light before one is lit. Each is made in a function of its own, so that what is
+// proved of the caller says nothing of each of its words.
+fn blank() -> Memory {
+    [0u16; 32768]
+}
+
+fn dark() -> [u64; 65536] {
+    [0u64; 65536]
+}
+
 // Writes what a line is filled with.
-fn emit(file: i32, line: &[u8], length: usize) {
+fn emit(out: &impl Print, line: &[u8], length: usize) -> io::Result<()> {
     if length <= line.len() {
-        io::write_all(file, &line[..length]);
+        console::write(out, &line[..length])
+    } else {
+        Ok(())
     }
 }
 
 // Takes one argument more, and tells it if it cannot be taken.
-fn take(a: Asked, i: usize) -> Asked {
+fn take(rt: &impl Env, err: &impl Print, a: Asked, i: usize) -> io::Result<Asked> {
     let mut argument = [0u8; 256];
-    let length = os::arg(i, &mut argument);
+    let length = console::argument(rt, i, &mut argument);
     let next = arguments::taken(a, &argument[..length]);
     if next.fault {
         let waits = a.waits;
-        faults::tell(waits, &argument[..length]);
+        faults::tell(err, waits, &argument[..length])?;
     }
-    next
+    Ok(next)
 }
 
 // Takes the arguments up to the first that cannot be taken.
-fn asked() -> Asked {
+fn asked(rt: &impl Env, err: &impl Print) -> io::Result<Asked> {
     let mut a = arguments::nothing();
-    let count = os::arg_count();
+    let count = console::argument_count(rt);
     let mut i = 1;
     while i < count && !a.fault {
-        a = take(a, i);
+        a = take(rt, err, a, i)?;
         i += 1;
     }
-    a
+    Ok(a)
 }
 
 // Whether every value that was waited for came.
-fn complete(a: Asked) -> bool {
+fn complete(err: &impl Print, a: Asked) -> io::Result<bool> {
     let waits = a.waits;
     if a.fault {
-        return false;
+        return Ok(false);
     }
     match waits {
-        Waits::Nothing => true,
+        Waits::Nothing => Ok(true),
         _ => {
-            faults::tell_missing(waits);
-            false
+            faults::tell_missing(err, waits)?;
+            Ok(false)
         }
     }
 }
 
 // Writes the answer of a run: its points, its ending in words, and what else was asked for.
-fn write_answer(shown: Shown, ran: Ran, memory: &Memory, before: &Memory, points: &[u64]) {
+fn write_answer(
+    out: &impl Print,
+    shown: Shown,
+    ran: Ran,
+    memory: &Memory,
+    before: &Memory,
+    points: &[u64],
+) -> io::Result<()> {
     let registers = ran.registers;
     let answer = ran.answer;
     let told = calls::numbered(answer);
-    shown::write_points(points, told.points);
+    shown::write_points(out, points, told.points)?;
     let mut line = [0u8; 128];
     let length = meanings::put_sentence(answer, registers, &mut line, 0);
-    emit(STDOUT_FILENO, &line, length);
+    emit(out, &line, length)?;
     if shown.registers {
-        shown::write_registers(registers);
+        shown::write_registers(out, registers)?;
     }
     if shown.changed {
-        shown::write_changed(memory, before);
+        shown::write_changed(out, memory, before)?;
     }
+    Ok(())
 }
 
 // Makes the run, and writes its answer.
-fn answer(a: Asked, s: Source, memory: &mut Memory, before: &Memory, points: &mut [u64]) {
+fn answer(
+    out: &impl Print,
+    a: Asked,
+    s: Source,
+    memory: &mut Memory,
+    before: &Memory,
+    points: &mut [u64],
+) -> io::Result<()> {
     let ran = asked::run(a, s, memory, points);
     let shown = a.shown;
-    write_answer(shown, ran, memory, before, points);
+    write_answer(out, shown, ran, memory, before, points)
 }
 
 // Lends of the point list as much as was asked for.
-fn lend(a: Asked, s: Source, memory: &mut Memory, before: &Memory, points: &mut [u64])
+fn lend(
+    out: &impl Print,
+    a: Asked,
+    s: Source,
+    memory: &mut Memory,
+    before: &Memory,
+    points: &mut [u64],
+) -> io::Result<()>
     requires { length points.old ≡ 65536 }
 {
     // Never above 65,536; the remainder spares every caller to say so.
     let room = (a.limits.room % 65537) as usize;
-    answer(a, s, memory, before, &mut points[..room]);
+    answer(out, a, s, memory, before, &mut points[..room])
 }
 
 // Runs a lesson as people write it.
-fn run(a: Asked, input: &[u8]) {
-    let mut memory = [0u16; 32768];
-    let mut before = [0u16; 32768];
-    let mut points = [0u64; 65536];
+fn run(out: &impl Print, err: &impl Print, a: Asked, input: &[u8]) -> io::Result<()> {
+    let mut memory = blank();
+    let mut before = blank();
+    let mut points = dark();
     source::read(input, &mut before);
     let s = source::read(input, &mut memory);
     if source::whole(s) {
         if a.shown.trace {
-            let mut traced = [0u16; 32768];
+            let mut traced = blank();
             source::read(input, &mut traced);
-            traces::write(a, s, &mut traced);
+            traces::write(out, a, s, &mut traced)?;
         }
-        lend(a, s, &mut memory, &before, &mut points);
+        lend(out, a, s, &mut memory, &before, &mut points)
     } else {
-        spots::tell_source(input, s.any);
+        spots::tell_source(err, input, s.any)
     }
 }
 
@@ -131,8 +167,8 @@ fn practiced(a: Asked, input: &[u8], memory: &mut Memory, points: &mut [u64; 102
 }
 
 // Explains what the practice program answers to a lesson: a bad line, or an ending that is no stop word.
-fn hint(a: Asked, input: &[u8]) {
-    let mut memory = [0u16; 32768];
+fn hint(out: &impl Print, a: Asked, input: &[u8]) -> io::Result<()> {
+    let mut memory = blank();
     let count = lines::read(input, &mut memory);
     if spots::good(input, count) {
         let mut points = [0u64; 1024];
@@ -141,25 +177,32 @@ fn hint(a: Asked, input: &[u8]) {
         if !stopped(answer) {
             let mut line = [0u8; 128];
             let length = meanings::put_sentence(answer, ran.registers, &mut line, 0);
-            io::write_all(STDOUT_FILENO, b"hint: ");
-            emit(STDOUT_FILENO, &line, length);
+            console::write(out, b"hint: ")?;
+            emit(out, &line, length)?;
         }
+        Ok(())
     } else {
-        spots::tell_lines(input, count);
+        spots::tell_lines(out, input, count)
     }
 }
 
-fn main() {
-    let a = asked();
-    if complete(a) {
-        let mut input = [0u8; LONGEST + 1];
-        let count = io::read_full(libc::STDIN_FILENO, &mut input);
-        if a.shown.hint {
-            hint(a, &input[..count]);
-        } else if count <= LONGEST {
-            run(a, &input[..count]);
-        } else {
-            faults::tell_long();
-        }
+fn start(rt: HostRuntime) -> io::Result<()> {
+    let err = rt.stderr();
+    let a = asked(&rt, &err)?;
+    if !complete(&err, a)? {
+        return Ok(());
     }
+    let mut input = vec![in rt.alloc(); 0u8; LONGEST + 1]?;
+    let count = console::read_full(&rt, &mut input)?;
+    if a.shown.hint {
+        hint(&rt, a, &input[..count])
+    } else if count <= LONGEST {
+        run(&rt, &err, a, &input[..count])
+    } else {
+        faults::tell_long(&err)
+    }
+}
+
+fn main(rt: HostRuntime) -> io::Result<()> {
+    console::ended(start(rt))
 }

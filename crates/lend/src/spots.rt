@@ -1,5 +1,6 @@
 // Where a lesson goes wrong, told with its line, what is wrong with it, and the form.
-use libc::{STDERR_FILENO, STDOUT_FILENO};
+use std::io;
+use std::io::Print;
 
 // The first byte that cannot be taken, and how far its line is read there, in the places of the crate `source`.
 #[derive(Clone, Copy)]
@@ -90,75 +91,76 @@ fn plain(byte: u8) -> u8 {
 }
 
 // Writes a line, its first 60 bytes at most.
-fn write_line(file: i32, line: &[u8]) {
+fn write_line(out: &impl Print, line: &[u8]) -> io::Result<()> {
     let mut i = 0;
     while i < line.len() && i < 60 && line[i] != b'\n' {
-        io::write_all(file, &[plain(line[i])]);
+        console::write(out, &[plain(line[i])])?;
         i += 1;
     }
+    Ok(())
 }
 
 // What is wrong with a byte at a place of its line.
-fn tell_byte(file: i32, place: u8, byte: u8) {
+fn tell_byte(out: &impl Print, place: u8, byte: u8) -> io::Result<()> {
     if byte == b'\n' {
-        io::write_all(file, b"it is too short");
+        console::write(out, b"it is too short")
     } else if byte == b'\t' {
-        io::write_all(file, b"there is a tab in it");
+        console::write(out, b"there is a tab in it")
     } else if byte == b'\r' {
-        io::write_all(file, b"there is a carriage return in it");
+        console::write(out, b"there is a carriage return in it")
     } else if place == 10 {
-        io::write_all(file, b"it is too long");
+        console::write(out, b"it is too long")
     } else if place == 5 {
-        io::write_all(file, b"behind its first five digits there is no space");
+        console::write(out, b"behind its first five digits there is no space")
     } else if (byte == b'8') | (byte == b'9') {
-        io::write_all(file, b"8 and 9 are no octal digits");
+        console::write(out, b"8 and 9 are no octal digits")
     } else if byte == b' ' {
-        io::write_all(file, b"it has too few digits, or a space too many");
+        console::write(out, b"it has too few digits, or a space too many")
     } else {
-        io::write_all(file, b"it has a character that is no octal digit");
+        console::write(out, b"it has a character that is no octal digit")
     }
 }
 
 // What is wrong where the lesson ends.
-fn tell_end(file: i32, place: u8) {
+fn tell_end(out: &impl Print, place: u8) -> io::Result<()> {
     if place == 10 {
-        io::write_all(file, b"its newline is missing");
+        console::write(out, b"its newline is missing")
     } else {
-        io::write_all(file, b"the lesson ends before it is whole");
+        console::write(out, b"the lesson ends before it is whole")
     }
 }
 
 // Tells the line of a place and what is wrong with it there.
-fn tell(file: i32, input: &[u8], at: usize, place: u8) {
+fn tell(out: &impl Print, input: &[u8], at: usize, place: u8) -> io::Result<()> {
     let begin = beginning(input, at);
-    io::write_all(file, b"line ");
-    io::print_decimal(file, number(input, at));
-    io::write_all(file, b" is '");
+    console::write(out, b"line ")?;
+    console::write_decimal(out, number(input, at))?;
+    console::write(out, b" is '")?;
     if begin <= input.len() {
-        write_line(file, &input[begin..]);
+        write_line(out, &input[begin..])?;
     }
-    io::write_all(file, b"': ");
+    console::write(out, b"': ")?;
     if at < input.len() {
-        tell_byte(file, place, input[at]);
+        tell_byte(out, place, input[at])
     } else {
-        tell_end(file, place);
+        tell_end(out, place)
     }
 }
 
 // A lesson as people write it that is none.
-pub(crate) fn tell_source(input: &[u8], any: bool) {
+pub(crate) fn tell_source(err: &impl Print, input: &[u8], any: bool) -> io::Result<()> {
     let s = first_spot(input);
     if (s.at < input.len()) | any {
-        tell(STDERR_FILENO, input, s.at, s.place);
-        io::write_all(
-            STDERR_FILENO,
+        tell(err, input, s.at, s.place)?;
+        console::write(
+            err,
             b". A line is an address in five octal digits, blanks and a word in four, as 00200 1101; a comment begins with a slash.\n",
-        );
+        )
     } else {
-        io::write_all(
-            STDERR_FILENO,
+        console::write(
+            err,
             b"there is no word in the lesson: write lines of an address and its word, as 00200 1101.\n",
-        );
+        )
     }
 }
 
@@ -168,23 +170,23 @@ pub(crate) fn good(input: &[u8], count: usize) -> bool {
 }
 
 // A lesson that the practice program does not take.
-pub(crate) fn tell_lines(input: &[u8], count: usize) {
-    io::write_all(STDOUT_FILENO, b"hint: ");
+pub(crate) fn tell_lines(out: &impl Print, input: &[u8], count: usize) -> io::Result<()> {
+    console::write(out, b"hint: ")?;
     if count < 4096 {
         let begin = lines::LINE * count;
         if begin <= input.len() {
             // Never above 11; the remainder spares every caller to say so.
             let place = fitting(&input[begin..]) % 16;
-            tell(STDOUT_FILENO, input, begin + place, place as u8);
+            tell(out, input, begin + place, place as u8)?;
         }
-        io::write_all(
-            STDOUT_FILENO,
+        console::write(
+            out,
             b". A line is an address in five octal digits, one space, a word in four and a newline, as 00200 1101. ./eveglome run also takes comments, blank lines, tabs and carriage returns.\n",
-        );
+        )
     } else {
-        io::write_all(
-            STDOUT_FILENO,
+        console::write(
+            out,
             b"line 4097 is one too many: a lesson has at most 4096 lines.\n",
-        );
+        )
     }
 }

@@ -4,10 +4,11 @@ use addresses::DisplayAddress;
 use answers::Numbers;
 use arguments::Asked;
 use endings::Ending;
-use libc::STDOUT_FILENO;
 use loan::Loan;
 use registers::{CharacterMotion, Motion, Registers, Stage};
 use source::Source;
+use std::io;
+use std::io::Print;
 
 // A beat is made by a run of one beat, with room for one point or for none.
 #[derive(Clone, Copy)]
@@ -158,7 +159,14 @@ fn put_after(v: View, points: &[u64], count: usize, line: &mut [u8], place: usiz
 }
 
 // Makes one beat, and writes its line if it could be made.
-fn write_beat(beat: u32, r: Registers, l: Loan, memory: &mut Memory, points: &mut [u64]) -> Made {
+fn write_beat(
+    out: &impl Print,
+    beat: u32,
+    r: Registers,
+    l: Loan,
+    memory: &mut Memory,
+    points: &mut [u64],
+) -> io::Result<Made> {
     let mut line = [0u8; 128];
     let before = put_before(beat, seen(r), memory, &mut line);
     let made = make(r, l, memory, points);
@@ -166,19 +174,26 @@ fn write_beat(beat: u32, r: Registers, l: Loan, memory: &mut Memory, points: &mu
     if told.beats == 1 {
         let registers = made.registers;
         let after = put_after(seen(registers), points, told.points, &mut line, before);
-        emit(STDOUT_FILENO, &line, after);
+        emit(out, &line, after)?;
     }
-    made
+    Ok(made)
 }
 
 // The same, with room for one point or for none.
-fn write_lit(beat: u32, r: Registers, l: Loan, memory: &mut Memory, room: bool) -> Made {
+fn write_lit(
+    out: &impl Print,
+    beat: u32,
+    r: Registers,
+    l: Loan,
+    memory: &mut Memory,
+    room: bool,
+) -> io::Result<Made> {
     if room {
         let mut point = [0u64; 1];
-        write_beat(beat, r, l, memory, &mut point)
+        write_beat(out, beat, r, l, memory, &mut point)
     } else {
         let mut nowhere = [0u64; 0];
-        write_beat(beat, r, l, memory, &mut nowhere)
+        write_beat(out, beat, r, l, memory, &mut nowhere)
     }
 }
 
@@ -188,7 +203,7 @@ fn lit(told: Numbers) -> u32 {
 }
 
 // Writes a line for each beat of the run that was asked for.
-pub(crate) fn write(a: Asked, s: Source, memory: &mut Memory) {
+pub(crate) fn write(out: &impl Print, a: Asked, s: Source, memory: &mut Memory) -> io::Result<()> {
     let l = asked::lent(a, s);
     let mut r = asked::started(a, s);
     let mut room = a.limits.room;
@@ -196,10 +211,10 @@ pub(crate) fn write(a: Asked, s: Source, memory: &mut Memory) {
     let budget = a.limits.budget % 65536;
     let mut beat = 0;
     while beat < budget {
-        let made = write_lit(beat + 1, r, l, memory, 0 < room);
+        let made = write_lit(out, beat + 1, r, l, memory, 0 < room)?;
         let told = made.told;
         if told.ending != endings::ending_numbers(Ending::BudgetSpent).number {
-            return;
+            return Ok(());
         }
         let point = lit(told);
         if point <= room {
@@ -208,4 +223,5 @@ pub(crate) fn write(a: Asked, s: Source, memory: &mut Memory) {
         r = made.registers;
         beat += 1;
     }
+    Ok(())
 }

@@ -3,6 +3,8 @@ ghost use Rattle.std.specs.Prelude.{◌≤◌, length};
 
 use crate::asked::Start;
 use crate::{Memory, emit, faults};
+use std::io;
+use std::io::Print;
 
 // Where a stretch of a listing ends, and how many lines it has behind its first.
 #[derive(Clone, Copy)]
@@ -44,33 +46,41 @@ fn behind(low: u16, further: usize) -> u16
 }
 
 // Writes a line of a lesson.
-fn write_line(address: u16, word: u16) {
+fn write_line(out: &impl Print, address: u16, word: u16) -> io::Result<()> {
     let mut line = [0u8; 11];
     let addressed = text::put_address(address, &mut line, 0);
     let spaced = text::put(b' ', &mut line, addressed);
     let worded = text::put_word(word, &mut line, spaced);
     let ended = text::put(b'\n', &mut line, worded);
-    emit(&line, ended);
+    emit(out, &line, ended)
 }
 
 // Writes the lines of a range of words.
-fn write_lines(memory: &Memory, low: u16, high: u16) {
+fn write_lines(out: &impl Print, memory: &Memory, low: u16, high: u16) -> io::Result<()> {
     let mut address = low;
     while address < high && address < 32768 {
-        write_line(address, memory[address as usize]);
+        write_line(out, address, memory[address as usize])?;
         address += 1;
     }
+    Ok(())
 }
 
 // Reads a stretch, writes its words where that is asked for, and answers its first line not in form, or 0.
-fn read_stretch(s: Start, writing: bool, text: &[u8], further: usize, memory: &mut Memory) -> u32 {
+fn read_stretch(
+    out: &impl Print,
+    s: Start,
+    writing: bool,
+    text: &[u8],
+    further: usize,
+    memory: &mut Memory,
+) -> io::Result<u32> {
     let low = lines::start(text) % 32768;
     let high = behind(low, further);
     let answer = unlisting::read(text, memory, low, high, s.state, s.mode);
     if writing {
-        write_lines(memory, low, high);
+        write_lines(out, memory, low, high)?;
     }
-    unlisting::numbered(answer).line
+    Ok(unlisting::numbered(answer).line)
 }
 
 // How many lines end in a text.
@@ -87,34 +97,46 @@ fn ended(text: &[u8]) -> usize {
 }
 
 // Reads all stretches, writes their words where that is asked for, and answers the first line not in form, or 0.
-fn read(s: Start, writing: bool, input: &[u8], memory: &mut Memory) -> usize {
+fn read(
+    out: &impl Print,
+    s: Start,
+    writing: bool,
+    input: &[u8],
+    memory: &mut Memory,
+) -> io::Result<usize> {
     let mut at = 0;
     while at < input.len() {
         let t = stretch_at(input, at);
         let end = t.end;
-        let line = read_stretch(s, writing, &input[at..end], t.further, memory);
+        let line = read_stretch(out, s, writing, &input[at..end], t.further, memory)?;
         if line != 0 {
             // Never so many; the remainders spare every caller to say so.
-            return ended(&input[..at]) % 2000000 + (line % 2000000) as usize;
+            return Ok(ended(&input[..at]) % 2000000 + (line % 2000000) as usize);
         }
         if end == input.len() {
-            return 0;
+            return Ok(0);
         }
         at = end + 1;
     }
-    0
+    Ok(0)
 }
 
 // Writes the lesson that a listing makes, or its first line not in form: of an empty listing that is line 1.
-pub(crate) fn write(s: Start, input: &[u8], memory: &mut Memory) {
+pub(crate) fn write(
+    out: &impl Print,
+    err: &impl Print,
+    s: Start,
+    input: &[u8],
+    memory: &mut Memory,
+) -> io::Result<()> {
     if input.len() == 0 {
-        faults::tell_listing(1);
-        return;
+        return faults::tell_listing(out, err, 1);
     }
-    let line = read(s, false, input, memory);
+    let line = read(out, s, false, input, memory)?;
     if line == 0 {
-        read(s, true, input, memory);
+        read(out, s, true, input, memory)?;
+        Ok(())
     } else {
-        faults::tell_listing(line as u64);
+        faults::tell_listing(out, err, line as u64)
     }
 }

@@ -7,8 +7,10 @@ mod faults;
 mod stretches;
 
 use asked::Start;
-use libc::{STDERR_FILENO, STDIN_FILENO, STDOUT_FILENO};
 use numerals::Bounds;
+use std::env::Env;
+use std::io;
+use std::io::{Input, Print};
 
 // A lesson may have this many bytes and not one more, with its comments.
 const LESSON: usize = 262144;
@@ -18,73 +20,108 @@ const LISTING: usize = 1500000;
 
 type Memory = [u16; 32768];
 
-// One byte more shows that there are too many.
-type Lesson = [u8; LESSON + 1];
-
-type Text = [u8; LISTING + 1];
+// Memory before anything is read into it. It is made in a function of its own, so that what is proved of the caller says nothing of each of its words.
+fn blank() -> Memory {
+    [0u16; 32768]
+}
 
 // Writes what a text is filled with.
-fn emit(text: &[u8], length: usize) {
+fn emit(out: &impl Print, text: &[u8], length: usize) -> io::Result<()> {
     if length <= text.len() {
-        io::write_all(STDOUT_FILENO, &text[..length]);
+        console::write(out, &text[..length])
+    } else {
+        Ok(())
     }
 }
 
 // Reads a lesson and lists it: the range that is asked for, or else its stretches.
-fn list(b: Bounds, s: Start, lesson: &mut [u8], memory: &mut Memory, text: &mut Text) {
-    let count = io::read_full(STDIN_FILENO, lesson);
+fn list(
+    rt: &(impl Env + Input + Print),
+    err: &impl Print,
+    b: Bounds,
+    s: Start,
+    lesson: &mut [u8],
+    memory: &mut Memory,
+    text: &mut [u8],
+) -> io::Result<()> {
+    let count = console::read_full(rt, lesson)?;
     if LESSON < count {
-        io::write_all(
-            STDERR_FILENO,
+        return console::write(
+            err,
             b"the lesson is longer than 262144 bytes: take comments out of it.\n",
         );
-        return;
     }
     let read = source::read(&lesson[..count], memory);
     if !source::whole(read) {
-        faults::tell_lesson(&lesson[..count], read);
-    } else if os::arg_count() == 1 {
-        stretches::write(&lesson[..count], memory, text);
+        faults::tell_lesson(err, &lesson[..count], read)
+    } else if console::argument_count(rt) == 1 {
+        stretches::write(rt, &lesson[..count], memory, text)
     } else {
-        stretches::write_range(b.low, b.high, s, memory, text);
+        stretches::write_range(rt, b.low, b.high, s, memory, text)
     }
 }
 
 // Reads a listing and makes a lesson of it.
-fn unlist(s: Start, text: &mut [u8], memory: &mut Memory) {
-    let count = io::read_full(STDIN_FILENO, text);
+fn unlist(
+    rt: &(impl Input + Print),
+    err: &impl Print,
+    s: Start,
+    text: &mut [u8],
+    memory: &mut Memory,
+) -> io::Result<()> {
+    let count = console::read_full(rt, text)?;
     if count <= LISTING {
-        back::write(s, &text[..count], memory);
+        back::write(rt, err, s, &text[..count], memory)
     } else {
-        io::write_all(
-            STDERR_FILENO,
+        console::write(
+            err,
             b"the listing is longer than 1500000 bytes, as none of a lesson is: give one that ./eveglome list has written.\n",
-        );
+        )
     }
 }
 
-fn start_list(lesson: &mut Lesson, memory: &mut Memory, text: &mut Text) {
-    let b = asked::range();
-    let s = asked::starting(b.valid, 3, 4);
+fn start_list(
+    rt: &(impl Env + Input + Print),
+    err: &impl Print,
+    lesson: &mut [u8],
+    memory: &mut Memory,
+    text: &mut [u8],
+) -> io::Result<()> {
+    let b = asked::range(rt, err)?;
+    let s = asked::starting(rt, err, b.valid, 3, 4)?;
     if s.valid {
-        list(b, s, lesson, memory, text);
-    }
-}
-
-fn start_unlist(text: &mut Text, memory: &mut Memory) {
-    let s = asked::starting(true, 2, 3);
-    if s.valid {
-        unlist(s, text, memory);
-    }
-}
-
-fn main() {
-    let mut lesson = [0u8; LESSON + 1];
-    let mut memory = [0u16; 32768];
-    let mut text = [0u8; LISTING + 1];
-    if asked::is_back() {
-        start_unlist(&mut text, &mut memory);
+        list(rt, err, b, s, lesson, memory, text)
     } else {
-        start_list(&mut lesson, &mut memory, &mut text);
+        Ok(())
     }
+}
+
+fn start_unlist(
+    rt: &(impl Env + Input + Print),
+    err: &impl Print,
+    text: &mut [u8],
+    memory: &mut Memory,
+) -> io::Result<()> {
+    let s = asked::starting(rt, err, true, 2, 3)?;
+    if s.valid {
+        unlist(rt, err, s, text, memory)
+    } else {
+        Ok(())
+    }
+}
+
+fn start(rt: HostRuntime) -> io::Result<()> {
+    // One byte more shows that there are too many.
+    let mut lesson = vec![in rt.alloc(); 0u8; LESSON + 1]?;
+    let mut memory = blank();
+    let mut text = vec![in rt.alloc(); 0u8; LISTING + 1]?;
+    if asked::is_back(&rt) {
+        start_unlist(&rt, &rt.stderr(), &mut text, &mut memory)
+    } else {
+        start_list(&rt, &rt.stderr(), &mut lesson, &mut memory, &mut text)
+    }
+}
+
+fn main(rt: HostRuntime) -> io::Result<()> {
+    console::ended(start(rt))
 }

@@ -1,6 +1,7 @@
 // Registers as the format has them: a row of numbers (crate `numbers`) up to the last that its kind of motion uses.
-use crate::input::Reader;
-use crate::{Block, input, output};
+use crate::input::{Inlet, Reader};
+use crate::output::Outlet;
+use crate::{input, output};
 use registers::Registers;
 
 pub(crate) type Row = [u16; numbers::ROW];
@@ -18,7 +19,7 @@ pub(crate) fn wide(value: u64) -> u16 {
 }
 
 // Reads the numbers of a row from one place up to another.
-fn read_part(r: Reader, block: &mut Block, row: &mut Row, first: usize, end: usize) -> Reader {
+fn read_part(r: Reader, block: &mut Inlet, row: &mut Row, first: usize, end: usize) -> Reader {
     let mut q = r;
     let mut place = first;
     while place < end && place < numbers::ROW {
@@ -41,7 +42,7 @@ fn fitting(r: Reader, row: Row) -> Reader {
 }
 
 // Reads registers, where the space before them was read last.
-pub(crate) fn read(r: Reader, block: &mut Block) -> Taken {
+pub(crate) fn read(r: Reader, block: &mut Inlet) -> Taken {
     let mut row = [0u16; numbers::ROW];
     let q = read_part(r, block, &mut row, 0, numbers::KIND + 1);
     // Of a character the stage, which comes with its first numbers, tells how many there are.
@@ -61,7 +62,7 @@ pub(crate) fn left(given: Row, refused: bool, r: Registers) -> Row {
 }
 
 // Writes a row, with a space before each number.
-pub(crate) fn write(row: Row, out: &mut Block, place: usize) -> usize {
+pub(crate) fn write(row: Row, out: &mut Outlet, place: usize) -> usize {
     let end = motion_numbers::used(row[numbers::KIND], row[numbers::STAGE]);
     output::numbers(&row[..end], out, place)
 }

@@ -1,5 +1,24 @@
 // Standard input, read in blocks and taken apart byte by byte: no line is ever held, so a line may have any length.
-use crate::{Block, LONGEST, SIZE, Text};
+use crate::{Block, LONGEST, SIZE, Text, blank_block};
+use std::io;
+use std::io::Stdin;
+
+// Standard input, the block that it is read in, and why a read failed if one did.
+#[derive(Drop)]
+pub(crate) struct Inlet {
+    stdin: Stdin,
+    bytes: Block,
+    pub failed: Option<io::Error>,
+}
+
+// Standard input before anything is read.
+pub(crate) fn opened(stdin: Stdin) -> Inlet {
+    Inlet {
+        stdin,
+        bytes: blank_block(),
+        failed: None,
+    }
+}
 
 // Where the reading stands in the block, `end` being how much of the block is filled, and what it read last.
 #[derive(Clone, Copy)]
@@ -35,19 +54,30 @@ pub(crate) fn failed(r: Reader) -> Reader {
     q
 }
 
+// Reads a block, and answers how many bytes it has. A read that fails ends the input.
+fn read_block(block: &mut Inlet) -> usize {
+    let got = console::read_some(&block.stdin, &mut block.bytes);
+    match got {
+        Ok(count) => count,
+        Err(error) => {
+            block.failed = Some(error);
+            0
+        }
+    }
+}
+
 // Fills the block where it is used up. The end of the input stays the end.
-fn filled(r: Reader, block: &mut Block) -> Reader {
+fn filled(r: Reader, block: &mut Inlet) -> Reader {
     let mut q = r;
     if (r.at == r.end) & !r.over {
-        let got = libc::read(libc::STDIN_FILENO, block);
         q.at = 0;
-        q.end = io::count(got, block);
+        q.end = read_block(block);
     }
     q
 }
 
 // Reads the next byte.
-pub(crate) fn next(r: Reader, block: &mut Block) -> Reader {
+pub(crate) fn next(r: Reader, block: &mut Inlet) -> Reader {
     let mut q = filled(r, block);
     if q.at == q.end {
         q.byte = 0;
@@ -55,14 +85,14 @@ pub(crate) fn next(r: Reader, block: &mut Block) -> Reader {
     } else {
         // Never 4,096 or more; the remainder spares every caller to say so.
         let at = q.at % SIZE;
-        q.byte = block[at];
+        q.byte = block.bytes[at];
         q.at = at + 1;
     }
     q
 }
 
 // Reads a line's first byte.
-pub(crate) fn first(r: Reader, block: &mut Block) -> Reader {
+pub(crate) fn first(r: Reader, block: &mut Inlet) -> Reader {
     let mut q = next(r, block);
     q.valid = true;
     q
@@ -74,7 +104,7 @@ fn been(r: Reader, byte: u8) -> Reader {
 }
 
 // Reads the bytes that have to come next.
-pub(crate) fn expect(r: Reader, block: &mut Block, bytes: &[u8]) -> Reader {
+pub(crate) fn expect(r: Reader, block: &mut Inlet, bytes: &[u8]) -> Reader {
     let mut q = r;
     let mut i = 0;
     while i < bytes.len() && q.valid {
@@ -90,7 +120,7 @@ pub(crate) fn ended(r: Reader) -> Reader {
 }
 
 // Reads on to the line's newline, or to the end of the input.
-pub(crate) fn skip(r: Reader, block: &mut Block) -> Reader {
+pub(crate) fn skip(r: Reader, block: &mut Inlet) -> Reader {
     let mut q = r;
     let mut turns = u64::MAX;
     while turns > 0 && q.byte != b'\n' && !q.over {
@@ -114,7 +144,7 @@ fn grown(number: u64, byte: u8) -> u64 {
 }
 
 // Reads digits, of which the first was read last, up to the byte that ends them.
-fn digits(r: Reader, block: &mut Block) -> Reader {
+fn digits(r: Reader, block: &mut Inlet) -> Reader {
     let mut q = r;
     let mut number = 0;
     let mut turns = u64::MAX;
@@ -128,7 +158,7 @@ fn digits(r: Reader, block: &mut Block) -> Reader {
 }
 
 // Reads a number of at most `largest`, where the space before it was read last.
-pub(crate) fn number(r: Reader, block: &mut Block, largest: u64) -> Reader {
+pub(crate) fn number(r: Reader, block: &mut Inlet, largest: u64) -> Reader {
     if !(r.valid & (r.byte == b' ')) {
         return failed(r);
     }
@@ -141,7 +171,7 @@ pub(crate) fn number(r: Reader, block: &mut Block, largest: u64) -> Reader {
 }
 
 // Reads a number for each of `largest`.
-pub(crate) fn numbers(r: Reader, block: &mut Block, largest: &[u64], values: &mut [u64]) -> Reader {
+pub(crate) fn numbers(r: Reader, block: &mut Inlet, largest: &[u64], values: &mut [u64]) -> Reader {
     let mut q = r;
     let mut i = 0;
     while i < largest.len() && i < values.len() {
@@ -163,7 +193,7 @@ fn within(r: Reader) -> bool {
 }
 
 // Reads the bytes of a text, of which the first was read last, up to the line's newline, or as many as the list has.
-fn bytes(r: Reader, block: &mut Block, text: &mut Text) -> Reader {
+fn bytes(r: Reader, block: &mut Inlet, text: &mut Text) -> Reader {
     let mut q = r;
     let mut length = 0;
     while length < LONGEST && within(q) {
@@ -185,7 +215,7 @@ fn cleared(r: Reader, text: &Text) -> Reader {
 }
 
 // Reads a semicolon and the text behind it, where the space before them was read last. A line that ends right behind the semicolon has no text.
-pub(crate) fn text(r: Reader, block: &mut Block, text: &mut Text) -> Reader {
+pub(crate) fn text(r: Reader, block: &mut Inlet, text: &mut Text) -> Reader {
     let semicolon = expect(been(r, b' '), block, b";");
     if !semicolon.valid {
         return semicolon;

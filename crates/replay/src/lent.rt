@@ -1,6 +1,7 @@
 // What a case lends, a memory, a point list and a text list: made ready before the call, and written after it.
-use crate::input::Reader;
-use crate::{Block, Memory, Points, fields, input, output};
+use crate::input::{Inlet, Reader};
+use crate::output::Outlet;
+use crate::{Memory, Points, fields, input, output};
 
 // The largest MEMLEN, DEFAULT and COUNT, as the types and the format give them.
 const LARGEST: [u64; 3] = [32769, 65535, 4294967295];
@@ -25,7 +26,7 @@ fn fill(memory: &mut Memory, word: u16) {
 // Reads an address below the memory's length, and its word.
 fn pair(
     r: Reader,
-    block: &mut Block,
+    block: &mut Inlet,
     length: u64,
     memory: &mut Memory,
     before: &mut Memory,
@@ -46,7 +47,7 @@ fn pair(
 
 fn pairs(
     r: Reader,
-    block: &mut Block,
+    block: &mut Inlet,
     count: u64,
     length: u64,
     memory: &mut Memory,
@@ -65,7 +66,7 @@ fn pairs(
 // the memory's length.
 pub(crate) fn read(
     r: Reader,
-    block: &mut Block,
+    block: &mut Inlet,
     memory: &mut Memory,
     before: &mut Memory,
 ) -> Reader {
@@ -79,12 +80,12 @@ pub(crate) fn read(
     q
 }
 
-fn write_point(point: u64, out: &mut Block, place: usize) -> usize {
+fn write_point(point: u64, out: &mut Outlet, place: usize) -> usize {
     output::number(point, out, place)
 }
 
 // Writes the first `count` points.
-pub(crate) fn write_points(points: &[u64], count: usize, out: &mut Block, place: usize) -> usize {
+pub(crate) fn write_points(points: &[u64], count: usize, out: &mut Outlet, place: usize) -> usize {
     let mut at = output::text(b" P", out, place);
     let mut i = 0;
     while i < count && i < points.len() {
@@ -94,7 +95,7 @@ pub(crate) fn write_points(points: &[u64], count: usize, out: &mut Block, place:
     at
 }
 
-fn write_word(address: usize, old: u16, new: u16, out: &mut Block, place: usize) -> usize {
+fn write_word(address: usize, old: u16, new: u16, out: &mut Outlet, place: usize) -> usize {
     if old == new {
         place
     } else {
@@ -104,7 +105,12 @@ fn write_word(address: usize, old: u16, new: u16, out: &mut Block, place: usize)
 }
 
 // Writes the words that the call changed.
-pub(crate) fn write_memory(memory: &[u16], before: &[u16], out: &mut Block, place: usize) -> usize {
+pub(crate) fn write_memory(
+    memory: &[u16],
+    before: &[u16],
+    out: &mut Outlet,
+    place: usize,
+) -> usize {
     let mut at = output::text(b" M", out, place);
     let mut i = 0;
     while i < memory.len() && i < before.len() {
@@ -115,7 +121,7 @@ pub(crate) fn write_memory(memory: &[u16], before: &[u16], out: &mut Block, plac
 }
 
 // Writes a byte of text; for a newline stands |.
-fn write_byte(byte: u8, out: &mut Block, place: usize) -> usize {
+fn write_byte(byte: u8, out: &mut Outlet, place: usize) -> usize {
     if byte == b'\n' {
         output::put(b'|', out, place)
     } else {
@@ -124,7 +130,7 @@ fn write_byte(byte: u8, out: &mut Block, place: usize) -> usize {
 }
 
 // Writes the first `count` bytes of a text; for none stands -.
-pub(crate) fn write_text(text: &[u8], count: usize, out: &mut Block, place: usize) -> usize {
+pub(crate) fn write_text(text: &[u8], count: usize, out: &mut Outlet, place: usize) -> usize {
     let mut at = output::put(b' ', out, place);
     if count == 0 {
         return output::put(b'-', out, at);

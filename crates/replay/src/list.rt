@@ -1,12 +1,13 @@
 // The case `list`: a range of words, a state and a mode, room for the text, and a memory.
 ghost use Rattle.std.specs.Prelude.{◌≡◌, length};
 
-use crate::input::Reader;
+use crate::input::{Inlet, Reader};
+use crate::output::Outlet;
 use crate::range::Range;
-use crate::{Block, LONGEST, Memory, Step, Text, input, lent, output, range};
+use crate::{LONGEST, Memory, Step, Text, input, lent, output, range};
 
 // Lists, and writes the answer.
-fn play(range: Range, memory: &[u16], text: &mut [u8], out: &mut Block, place: usize) -> usize {
+fn play(range: Range, memory: &[u16], text: &mut [u8], out: &mut Outlet, place: usize) -> usize {
     let listed = listing::list(memory, range.low, range.high, range.state, range.mode, text);
     let told = listing::numbered(listed);
     let named = output::text(b"list", out, place);
@@ -22,7 +23,7 @@ fn lend(
     size: u64,
     memory: &[u16],
     text: &mut [u8],
-    out: &mut Block,
+    out: &mut Outlet,
     place: usize,
 ) -> usize
     requires { (length memory.now ≡ 32769) × (length text.old ≡ 1500000) }
@@ -36,11 +37,11 @@ fn lend(
 // Reads the rest of the case, behind its first byte, and answers it.
 pub(crate) fn answer(
     r: Reader,
-    block: &mut Block,
+    block: &mut Inlet,
     memory: &mut Memory,
     before: &mut Memory,
     text: &mut Text,
-    out: &mut Block,
+    out: &mut Outlet,
     place: usize,
 ) -> Step {
     let taken = range::read(input::expect(r, block, b"ist "), block);

@@ -11,7 +11,9 @@ mod range;
 mod read;
 mod run;
 
-use input::Reader;
+use input::{Inlet, Reader};
+use output::Outlet;
+use std::io;
 
 // Input and output go through a block each.
 const SIZE: usize = 4096;
@@ -28,6 +30,23 @@ const LONGEST: usize = 1500000;
 
 type Text = [u8; LONGEST];
 
+// Each of these before it is used, made in a function of its own, so that what is proved of the caller says nothing of each element.
+fn blank_block() -> Block {
+    [0u8; SIZE]
+}
+
+fn blank_memory() -> Memory {
+    [0u16; 32769]
+}
+
+fn blank_points() -> Points {
+    [0u64; 65536]
+}
+
+fn blank_text() -> Text {
+    [0u8; LONGEST]
+}
+
 // Where a case leaves the reader and the output.
 #[derive(Clone, Copy)]
 struct Step {
@@ -38,12 +57,12 @@ struct Step {
 // Answers the case of `run` or `read`, which its second byte tells apart.
 fn run_or_read(
     r: Reader,
-    block: &mut Block,
+    block: &mut Inlet,
     memory: &mut Memory,
     before: &mut Memory,
     points: &mut Points,
     text: &mut Text,
-    out: &mut Block,
+    out: &mut Outlet,
     place: usize,
 ) -> Step {
     let second = input::next(r, block);
@@ -62,12 +81,12 @@ fn run_or_read(
 // Answers the case whose first byte was read last. A reader that comes back not valid has answered nothing.
 fn answer(
     r: Reader,
-    block: &mut Block,
+    block: &mut Inlet,
     memory: &mut Memory,
     before: &mut Memory,
     points: &mut Points,
     text: &mut Text,
-    out: &mut Block,
+    out: &mut Outlet,
     place: usize,
 ) -> Step {
     if r.byte == b'o' {
@@ -85,7 +104,7 @@ fn answer(
 }
 
 // Answers a line that is no case.
-fn error(line: u64, out: &mut Block, place: usize) -> usize {
+fn error(line: u64, out: &mut Outlet, place: usize) -> usize {
     let said = output::text(b"error", out, place);
     let counted = output::number(line, out, said);
     output::put(b'\n', out, counted)
@@ -95,12 +114,12 @@ fn error(line: u64, out: &mut Block, place: usize) -> usize {
 fn line(
     r: Reader,
     number: u64,
-    block: &mut Block,
+    block: &mut Inlet,
     memory: &mut Memory,
     before: &mut Memory,
     points: &mut Points,
     text: &mut Text,
-    out: &mut Block,
+    out: &mut Outlet,
     place: usize,
 ) -> Step {
     let step = answer(r, block, memory, before, points, text, out, place);
@@ -116,19 +135,19 @@ fn line(
     }
 }
 
-// Answers every line, and tells how much of the output is still to be written.
+// Answers every line, or those up to a write that failed, and tells how much of the output is still to be written.
 fn lines(
-    block: &mut Block,
+    block: &mut Inlet,
     memory: &mut Memory,
     before: &mut Memory,
     points: &mut Points,
     text: &mut Text,
-    out: &mut Block,
+    out: &mut Outlet,
 ) -> usize {
     let mut r = input::first(input::start(), block);
     let mut place = 0;
     let mut number = 0;
-    while number < u64::MAX && !r.over {
+    while number < u64::MAX && !r.over && out.failed.is_none() {
         number += 1;
         let step = line(r, number, block, memory, before, points, text, out, place);
         place = step.place;
@@ -138,13 +157,24 @@ fn lines(
     place
 }
 
-fn main() {
-    let mut block = [0u8; SIZE];
-    let mut out = [0u8; SIZE];
-    let mut memory = [0u16; 32769];
-    let mut before = [0u16; 32769];
-    let mut points = [0u64; 65536];
-    let mut text = [0u8; LONGEST];
+// What reading and writing came to.
+fn outcome(block: &Inlet, out: &Outlet) -> io::Result<()> {
+    if let Some(error) = out.failed {
+        return Err(error);
+    }
+    match block.failed {
+        Some(error) => Err(error),
+        None => Ok(()),
+    }
+}
+
+fn replay(rt: HostRuntime) -> io::Result<()> {
+    let mut block = input::opened(rt.stdin());
+    let mut out = output::opened(rt.stdout());
+    let mut memory = blank_memory();
+    let mut before = blank_memory();
+    let mut points = blank_points();
+    let mut text = blank_text();
     let place = lines(
         &mut block,
         &mut memory,
@@ -153,5 +183,10 @@ fn main() {
         &mut text,
         &mut out,
     );
-    output::flush(&out, place);
+    output::flush(&mut out, place);
+    outcome(&block, &out)
+}
+
+fn main(rt: HostRuntime) -> io::Result<()> {
+    console::ended(replay(rt))
 }

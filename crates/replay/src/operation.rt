@@ -1,11 +1,12 @@
 // The case `op`: registers, an operation's number and its operand.
 use crate::fields::Row;
-use crate::input::Reader;
-use crate::{Block, Step, fields, input, output};
+use crate::input::{Inlet, Reader};
+use crate::output::Outlet;
+use crate::{Step, fields, input, output};
 use host::Operated;
 
 // Writes the answer to an operation on the registers of a row.
-fn write(operated: Operated, given: Row, out: &mut Block, place: usize) -> usize {
+fn write(operated: Operated, given: Row, out: &mut Outlet, place: usize) -> usize {
     let reply = operated.reply;
     let registers = operated.registers;
     let named = output::text(b"op", out, place);
@@ -26,7 +27,7 @@ fn operate(row: Row, operation: u64, operand: u64) -> Operated {
 }
 
 // Reads the rest of the case, behind its first byte, and answers it.
-pub(crate) fn answer(r: Reader, block: &mut Block, out: &mut Block, place: usize) -> Step {
+pub(crate) fn answer(r: Reader, block: &mut Inlet, out: &mut Outlet, place: usize) -> Step {
     let taken = fields::read(input::expect(r, block, b"p "), block);
     let operation = input::number(taken.reader, block, 4294967295);
     let operand = input::ended(input::number(operation, block, 4294967295));

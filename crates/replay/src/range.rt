@@ -1,6 +1,7 @@
 // What the cases `list` and `read` share: a range of words, a state and a mode, and the numbers of an answer.
-use crate::input::Reader;
-use crate::{Block, fields, input, output};
+use crate::input::{Inlet, Reader};
+use crate::output::Outlet;
+use crate::{fields, input, output};
 use listing::ListingNumbers;
 
 // The largest LO, HI, STATE and MODE, as the types give them.
@@ -32,7 +33,7 @@ fn range_of(v: [u64; 4]) -> Range {
 }
 
 // Reads a range, where the space before it was read last.
-pub(crate) fn read(r: Reader, block: &mut Block) -> Taken {
+pub(crate) fn read(r: Reader, block: &mut Inlet) -> Taken {
     let mut v = [0u64; 4];
     let reader = input::numbers(r, block, &LARGEST, &mut v);
     Taken {
@@ -42,7 +43,7 @@ pub(crate) fn read(r: Reader, block: &mut Block) -> Taken {
 }
 
 // Writes the numbers of an answer.
-pub(crate) fn write(told: ListingNumbers, out: &mut Block, place: usize) -> usize {
+pub(crate) fn write(told: ListingNumbers, out: &mut Outlet, place: usize) -> usize {
     let refused = output::number(told.refusal as u64, out, place);
     output::number(told.line as u64, out, refused)
 }

@@ -1,9 +1,10 @@
 // The case `read`: a range of words, a state and a mode, a memory, and the text that is read back into it.
 ghost use Rattle.std.specs.Prelude.{◌≡◌, length};
 
-use crate::input::Reader;
+use crate::input::{Inlet, Reader};
+use crate::output::Outlet;
 use crate::range::Range;
-use crate::{Block, Memory, Step, Text, input, lent, output, range};
+use crate::{Memory, Step, Text, input, lent, output, range};
 
 // Reads the text back, and writes the answer.
 fn play(
@@ -11,7 +12,7 @@ fn play(
     text: &[u8],
     memory: &mut [u16],
     before: &[u16],
-    out: &mut Block,
+    out: &mut Outlet,
     place: usize,
 ) -> usize {
     let reading = unlisting::read(text, memory, range.low, range.high, range.state, range.mode);
@@ -30,7 +31,7 @@ fn lend(
     text: &[u8],
     memory: &mut [u16],
     before: &[u16],
-    out: &mut Block,
+    out: &mut Outlet,
     place: usize,
 ) -> usize
     requires { (length text.now ≡ 1500000) × (length memory.old ≡ 32769) }
@@ -51,11 +52,11 @@ fn lend(
 // Reads the rest of the case, behind its second byte, and answers it.
 pub(crate) fn answer(
     r: Reader,
-    block: &mut Block,
+    block: &mut Inlet,
     memory: &mut Memory,
     before: &mut Memory,
     text: &mut Text,
-    out: &mut Block,
+    out: &mut Outlet,
     place: usize,
 ) -> Step {
     let taken = range::read(input::expect(r, block, b"ad "), block);

@@ -2,8 +2,9 @@
 ghost use Rattle.std.specs.Prelude.{◌≡◌, length};
 
 use crate::fields::Row;
-use crate::input::Reader;
-use crate::{Block, Memory, Points, Step, fields, input, lent, output};
+use crate::input::{Inlet, Reader};
+use crate::output::Outlet;
+use crate::{Memory, Points, Step, fields, input, lent, output};
 use answers::Numbers;
 use loan::Loan;
 
@@ -43,7 +44,7 @@ fn refused(told: Numbers) -> bool {
 }
 
 // Writes the answer but for the points and the words.
-fn write(row: Row, told: Numbers, out: &mut Block, place: usize) -> usize {
+fn write(row: Row, told: Numbers, out: &mut Outlet, place: usize) -> usize {
     let named = output::text(b"run", out, place);
     let first = output::number(told.ending as u64, out, named);
     let second = output::number(told.beats as u64, out, first);
@@ -58,7 +59,7 @@ fn play(
     memory: &mut [u16],
     before: &[u16],
     points: &mut [u64],
-    out: &mut Block,
+    out: &mut Outlet,
     place: usize,
 ) -> usize {
     let given = case.row;
@@ -82,7 +83,7 @@ fn lend(
     memory: &mut [u16],
     before: &[u16],
     points: &mut [u64],
-    out: &mut Block,
+    out: &mut Outlet,
     place: usize,
 ) -> usize
     requires { (length memory.old ≡ 32769) × (length points.old ≡ 65536) }
@@ -103,11 +104,11 @@ fn lend(
 // Reads the rest of the case, behind its second byte, and answers it.
 pub(crate) fn answer(
     r: Reader,
-    block: &mut Block,
+    block: &mut Inlet,
     memory: &mut Memory,
     before: &mut Memory,
     points: &mut Points,
-    out: &mut Block,
+    out: &mut Outlet,
     place: usize,
 ) -> Step {
     let taken = fields::read(input::expect(r, block, b"n "), block);

@@ -9,7 +9,7 @@ use Rattle.words.proofs.Laws.{pick_case}
 use Rattle.registers.specs.declared.Registers.{Registers}
 use Rattle.host.specs.declared.Reply.{Reply}
 use Rattle.host.specs.declared.Reply.TheVariants.{Refused, Done}
-use Rattle.host.specs.HostOperations.{numbered as replyNumbered}
+use Rattle.host.specs.HostOperations.{numbered as reply_numbered}
 use Rattle.beam.specs.declared.Lit.{Lit}
 use Rattle.beam.specs.declared.Lit.TheVariants.{Dark, Point}
 use Rattle.loan.specs.declared.Loan.{Loan}
@@ -20,13 +20,13 @@ use Rattle.endings.specs.declared.Halt.{Halt}
 use Rattle.endings.specs.declared.Halt.TheVariants.{Goes, Ends}
 use Rattle.endings.specs.Endings.{halted}
 use Rattle.runs.specs.Runs.{Run, Go, follow, onward, run, CallLeft}
-use Rattle.calls.specs.Calls.{entered, call, numbered as answerNumbered}
+use Rattle.calls.specs.Calls.{entered, call, numbered as answer_numbered}
 use Rattle.calls.proofs.Case.{call_case}
 use Rattle.unlisting.specs.declared.Reading.{Reading}
 use Rattle.unlisting.specs.declared.Reading.TheVariants.{Refused as RefusedReading, NotInForm, Done as Accepted}
-use Rattle.unlisting.specs.Unlisting.{numbered as readingNumbered}
+use Rattle.unlisting.specs.Unlisting.{numbered as reading_numbered}
 
-pub reply_points : (q : Reply) → (replyNumbered q).points < 4294967296
+pub reply_points : (q : Reply) → (reply_numbered q).points < 4294967296
 reply_points (Refused number) = omega arith
 reply_points (Done word) = omega arith
 
@@ -54,14 +54,14 @@ unfolding entered
 entered_few k l room r m = pick_case (λ (f : Run). length f.lit ≤ k) r.base.running (λ _. run_few k l room r m) (λ _. omega arith)
 
 abbrev pub Few : CallLeft → Type 0
-Few t = (answerNumbered t.ran.answer).points < 4294967296
+Few t = (answer_numbered t.ran.answer).points < 4294967296
 
 pub answer_points : (budget : ℕ) (l : Loan) (r : Registers) (m ps : List ℕ) → Few (call budget l r m ps)
 answer_points k l r m ps =
     call_case k l r m ps Few (λ _ h _ _. omega (arith, leb-true k 65535 h, entered_few k l (length ps) r m)) (λ _. omega arith)
 
-pub reading_length : (q : Reading) → (readingNumbered q).length < 4294967296
-unfolding readingNumbered
+pub reading_length : (q : Reading) → (reading_numbered q).length < 4294967296
+unfolding reading_numbered
 reading_length (RefusedReading number) = omega arith
 reading_length (NotInForm line) = omega arith
 reading_length Accepted = omega arith

@@ -14,8 +14,8 @@ use Rattle.listing.specs.Listing.{refusal, leaves, listed}
 use Rattle.listing.proofs.Unrefused.{unrefused}
 use Rattle.listing.proofs.Answers.{refused}
 use Rattle.unlisting.specs.declared.Reading.TheVariants.{Refused as RefusedReading}
-use Rattle.unlisting.specs.Unlisting.{leaves as readLeaves, reading}
-use Rattle.unlisting.proofs.Answers.{refused as refusedReading}
+use Rattle.unlisting.specs.Unlisting.{leaves as read_leaves, reading}
+use Rattle.unlisting.proofs.Answers.{refused as refused_reading}
 use Rattle.exports.specs.Exports.{narrowed}
 
 -- a number that fits stays, any other is the last
@@ -104,5 +104,5 @@ module _ (low high state mode : ℕ) {a b s d : ℕ} (l : a ≡ narrowed 65535 l
   pub reading_alike : (text m : List ℕ) → reading text m a b s d ≡ reading text m low high state mode
   reading_alike text m =
       rw (l, h, e, f)
-      (calls_alike (length m) (λ (n : ℕ). readLeaves (RefusedReading n) m) (reading text m)
-      (λ (low high state mode n : ℕ) e h. refusedReading text m low high state mode e h) low high state mode)
+      (calls_alike (length m) (λ (n : ℕ). read_leaves (RefusedReading n) m) (reading text m)
+      (λ (low high state mode n : ℕ) e h. refused_reading text m low high state mode e h) low high state mode)

@@ -6,17 +6,17 @@ use Rattle.registers.specs.declared.Registers.{Registers}
 use Rattle.host.specs.declared.Operated.{Operated}
 use Rattle.host.specs.declared.Reply.{Reply}
 use Rattle.host.specs.declared.Reply.TheVariants.{Refused, Done}
-use Rattle.host.specs.HostOperations.{operate, numbered as replyNumbered}
+use Rattle.host.specs.HostOperations.{operate, numbered as reply_numbered}
 use Rattle.loan.specs.declared.Loan.{Loan}
 use Rattle.runs.specs.declared.Answer.{Answer}
 use Rattle.runs.specs.declared.Answer.TheVariants.{Refused as RefusedRun, Ended}
 use Rattle.runs.specs.Runs.{CallLeft}
-use Rattle.calls.specs.Calls.{call, numbered as answerNumbered}
+use Rattle.calls.specs.Calls.{call, numbered as answer_numbered}
 use Rattle.answers.specs.declared.Numbers.{Numbers}
 use Rattle.numbers.specs.Numbers.{registers_of, row_of}
 use Rattle.listing.specs.declared.ListingNumbers.{ListingNumbers}
-use Rattle.listing.specs.Listing.{ListLeft, listed, numbered as listingNumbered}
-use Rattle.unlisting.specs.Unlisting.{ReadLeft, reading, numbered as readingNumbered}
+use Rattle.listing.specs.Listing.{ListLeft, listed, numbered as listing_numbered}
+use Rattle.unlisting.specs.Unlisting.{ReadLeft, reading, numbered as reading_numbered}
 
 -- the loan of its four numbers: file low, file high, list low, list high
 abbrev pub loan_of : List ℕ → Loan
@@ -45,7 +45,7 @@ operation_leaves row answer = record { row = row; answer = answer }
 
 -- an operation's outcome on a row, as numbers
 abbrev pub operated_as : List ℕ → Operated → OperationLeft
-operated_as row q = operation_leaves (row_after_operation q.reply q.registers row) (told (replyNumbered q.reply))
+operated_as row q = operation_leaves (row_after_operation q.reply q.registers row) (told (reply_numbered q.reply))
 
 -- the export of an operation: host's call on the registers of the row
 unfoldable pub operates : List ℕ → ℕ → ℕ → OperationLeft
@@ -64,7 +64,7 @@ run_leaves row m ps answer = record { row = row; memory = m; points = ps; answer
 -- a run's outcome on a row, as numbers
 abbrev pub ran_as : List ℕ → CallLeft → RunLeft
 ran_as row c =
-    run_leaves (row_after_run c.ran.answer c.ran.registers row) c.memory c.points (told (answerNumbered c.ran.answer))
+    run_leaves (row_after_run c.ran.answer c.ran.registers row) c.memory c.points (told (answer_numbered c.ran.answer))
 
 -- the export of a run: the whole call on the registers of the row
 unfoldable pub runs : ℕ → List ℕ → List ℕ → List ℕ → List ℕ → RunLeft
@@ -88,7 +88,7 @@ listing_leaves text answer = record { text = text; answer = answer }
 
 -- a listing's outcome, as numbers
 abbrev pub listed_as : ListLeft → ListingLeft
-listed_as l = listing_leaves l.text (told_listing (listingNumbered l.answer))
+listed_as l = listing_leaves l.text (told_listing (listing_numbered l.answer))
 
 -- the export of a listing: listing's call, whatever 32 bits say
 unfoldable pub lists : List ℕ → ℕ → ℕ → ℕ → ℕ → List ℕ → ListingLeft
@@ -104,7 +104,7 @@ reading_leaves m answer = record { memory = m; answer = answer }
 
 -- a reading's outcome, as numbers
 abbrev pub read_as : ReadLeft → ReadingLeft
-read_as r = reading_leaves r.memory (told_listing (readingNumbered r.answer))
+read_as r = reading_leaves r.memory (told_listing (reading_numbered r.answer))
 
 -- the export of a reading: unlisting's call, whatever 32 bits say
 unfoldable pub reads : List ℕ → List ℕ → ℕ → ℕ → ℕ → ℕ → ReadingLeft

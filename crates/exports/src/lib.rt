@@ -1,5 +1,6 @@
 // The library for other languages: five calls on numbers and lists of numbers. Registers are a row of numbers (crate `numbers`), an answer five numbers
-// (crate `answers`), that of a listing or its reading three (crate `listing`). Whatever arrives is refused or done: no caller has to check first.
+// (crate `answers`), that of a listing or its reading three (crate `listing`). Whatever arrives is refused or done: no caller has to check first. The crate
+// `exports_c` hands the calls to C.
 #![tactic(auto)]
 
 ghost use Rattle.std.specs.Prelude.{◌≡◌, ◌<◌};
@@ -16,10 +17,10 @@ use registers::Registers;
 use runs::Answer;
 
 // How many numbers an answer has.
-const ANSWER: usize = 5;
+pub const ANSWER: usize = 5;
 
 // How many numbers the answer of a listing or its reading has.
-const LISTING_ANSWER: usize = 3;
+pub const LISTING_ANSWER: usize = 3;
 
 // The loan of its four numbers: file low, file high, list low, list high.
 fn loan_of(loan: [u16; 4]) -> Loan
@@ -105,16 +106,15 @@ fn narrow_start(number: u32) -> u8
 }
 
 // Writes the row of fresh registers.
-#[unsafe(no_mangle)]
-pub extern "C" fn eveglome_fresh(registers: &mut [u16; numbers::ROW])
+pub fn eveglome_fresh(registers: &mut [u16; numbers::ROW])
     ensures { registers.new ≡ row_of fresh }
 {
     *registers = numbers::row_of(registers::fresh());
 }
 
 // Makes a host operation on the registers. A refused one leaves them as they were.
-#[unsafe(no_mangle)]
-pub extern "C" fn eveglome_operate(
+#[tactic(auto, unfolding(crate::specs::Exports::operates))]
+pub fn eveglome_operate(
     registers: &mut [u16; numbers::ROW],
     operation: u32,
     operand: u32,
@@ -130,8 +130,8 @@ pub extern "C" fn eveglome_operate(
 }
 
 // Runs the display. A refused run leaves registers, memory and points as they were.
-#[unsafe(no_mangle)]
-pub extern "C" fn eveglome_run(
+#[tactic(auto, unfolding(crate::specs::Exports::runs))]
+pub fn eveglome_run(
     registers: &mut [u16; numbers::ROW],
     loan: &[u16; 4],
     memory: &mut [u16],
@@ -156,8 +156,8 @@ pub extern "C" fn eveglome_run(
 }
 
 // Lists the words of a range from a state and a mode on. A refused call leaves the text list as it was.
-#[unsafe(no_mangle)]
-pub extern "C" fn eveglome_list(
+#[tactic(auto, unfolding(crate::specs::Exports::lists))]
+pub fn eveglome_list(
     memory: &[u16],
     low: u32,
     high: u32,
@@ -180,8 +180,8 @@ pub extern "C" fn eveglome_list(
 }
 
 // Reads a listing back into the words of a range. A refused call leaves memory as it was.
-#[unsafe(no_mangle)]
-pub extern "C" fn eveglome_read(
+#[tactic(auto, unfolding(crate::specs::Exports::reads))]
+pub fn eveglome_read(
     text: &[u8],
     memory: &mut [u16],
     low: u32,

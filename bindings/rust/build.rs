@@ -1,10 +1,10 @@
-//! Links the archive that `rt staticlib exports` writes.
+//! Links the archive that `bin/archive` makes.
 
 use std::env;
 use std::path::Path;
 
 fn main() {
-    let folder = Path::new(&env::var("CARGO_MANIFEST_DIR").unwrap()).join("../../target/staticlib");
+    let folder = Path::new(&env::var("CARGO_MANIFEST_DIR").unwrap()).join("..");
     let archive = folder.join("libexports.a");
     let system = env::var("CARGO_CFG_TARGET_OS").unwrap();
     let machine = env::var("CARGO_CFG_TARGET_ARCH").unwrap();
@@ -14,7 +14,7 @@ fn main() {
     );
     assert!(
         archive.exists(),
-        "{} is missing: run `rt staticlib exports` at the repository's top first",
+        "{} is missing: run `bin/archive` at the repository's top first",
         archive.display()
     );
     println!("cargo:rerun-if-changed={}", archive.display());

@@ -2,10 +2,12 @@
 // the old words lent too, and with all of memory lent, it shows what the fence keeps.
 #![tactic(auto)]
 
+use host::Operation;
 use loan::Loan;
 use runs::Ran;
 use std::io;
 use std::io::Print;
+use text::Text;
 
 // The exercise lies at 1000o, the class's pushdown list at 7000o, and the recovered character table, 64 words of it, behind the list at 7100o.
 const EXERCISE: usize = 512;
@@ -18,14 +20,9 @@ const TABLE: usize = 3648;
 
 const TABLE_END: usize = 3712;
 
-// A memory before anything is laid in it. It is made in a function of its own, so that what is proved of the caller says nothing of each of its words.
-fn blank() -> [u16; 32768] {
-    [0u16; 32768]
-}
-
 // A memory with the exercise, the old words and the table.
 fn laid_out() -> [u16; 32768] {
-    let mut memory = blank();
+    let mut memory = console::all(0);
     // Point mode, a lit point at (512, 512), escape; then the clearing of the hit flags, and no stop.
     memory[EXERCISE] = 0o1107;
     memory[EXERCISE + 1] = 0o5000;
@@ -35,40 +32,28 @@ fn laid_out() -> [u16; 32768] {
     // What an older file left there: a push jump to itself.
     memory[OLD_WORDS] = 0o2010;
     memory[OLD_WORDS + 1] = 0o1005;
-    let mut at = TABLE;
-    while at < TABLE_END {
-        memory[at] = 0o7070;
-        at += 1;
-    }
+    memory[TABLE..TABLE_END].fill(0o7070);
     memory
 }
 
 // How many words of the character table are no longer what was recovered.
-fn damaged(memory: &[u16; 32768]) -> u64 {
-    let mut changed: u64 = 0;
-    let mut at = TABLE;
-    while at < TABLE_END {
-        if memory[at] != 0o7070 {
-            changed += 1;
-        }
-        at += 1;
-    }
-    changed
+fn damaged(memory: &[u16; 32768]) -> usize {
+    memory[TABLE..TABLE_END]
+        .iter()
+        .filter(|word| **word != 0o7070)
+        .count()
 }
 
 // Says how the run ended, in words, and what it did to the character table.
-fn tell(out: &impl Print, ran: Ran, changed: u64) -> io::Result<()> {
-    let answer = ran.answer;
-    let left = ran.registers;
+fn tell(out: &impl Print, ran: Ran, changed: usize) -> io::Result<()> {
     let mut line = [0u8; 128];
-    let length = meanings::put_sentence(answer, left, &mut line, 0);
-    if length <= 128 {
-        console::write(out, &line[..length])?;
-    }
+    let mut text = Text::new(&mut line);
+    meanings::put_sentence(ran.answer, ran.registers, &mut text);
+    console::write(out, text.as_bytes())?;
     console::write(out, b"  ")?;
-    console::write_decimal(out, calls::numbered(answer).points as u64)?;
+    console::write_decimal(out, calls::numbered(ran.answer).points as u64)?;
     console::write(out, b" point lit, ")?;
-    console::write_decimal(out, changed)?;
+    console::write_decimal(out, changed as u64)?;
     console::write(out, b" words of the character table overwritten\n")
 }
 
@@ -76,8 +61,8 @@ fn tell(out: &impl Print, ran: Ran, changed: u64) -> io::Result<()> {
 fn tried(out: &impl Print, lent: Loan) -> io::Result<()> {
     let mut memory = laid_out();
     let mut points = [0u64; 16];
-    let started = host::operate(registers::fresh(), 1, 512).registers;
-    let ready = host::operate(started, 2, LIST as u32).registers;
+    let started = host::operate(registers::fresh(), Operation::Start.into(), 512).registers;
+    let ready = host::operate(started, Operation::Pointer.into(), LIST as u32).registers;
     let ran = calls::call(ready, lent, &mut memory, &mut points, 70);
     tell(out, ran, damaged(&memory))
 }

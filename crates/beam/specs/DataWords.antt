@@ -1,6 +1,6 @@
 -- Section 'Data words' of 01: where a beat leaves the beam, lit points and edges. The paper's rules are in paper's file of this name, moves in moves', the words
 -- in drawing's. Assumes nothing.
-use Rattle.std.specs.Prelude.{ℕ, Bool, not, ◌&&◌, ◌||◌, List, [], ◌∷◌}
+use Rattle.std.specs.Prelude.{ℕ, Bool, not, ◌&&◌, ◌||◌, List, [], ◌∷◌, Option, None, Some}
 use Rattle.words.specs.Words.{bit, bits, pick}
 use Rattle.addresses.specs.declared.DisplayAddress.{DisplayAddress}
 use Rattle.paper.specs.declared.Reached.{Reached}
@@ -9,9 +9,7 @@ use Rattle.registers.specs.declared.Base.{Base}
 use Rattle.registers.specs.With.{with_x, with_y, with_datastate, with_running, with_horizontal, with_vertical}
 use Rattle.registers.specs.declared.Motion.{Motion}
 use Rattle.registers.specs.declared.Motion.TheVariants.{Nothing}
-use Rattle.beam.specs.declared.Lit.{Lit}
-use Rattle.beam.specs.declared.Lit.TheVariants.{Dark, Point}
-use Rattle.beam.specs.declared.Stop.TheVariants.{None, Edge}
+use Rattle.beam.specs.declared.Stop.TheVariants.{Edge}
 use Rattle.beam.specs.declared.Outcome.{Outcome}
 
 -- the dimension's two condition bits: initial-condition bits 4, 5 for y, 6, 7 for x
@@ -23,16 +21,16 @@ field_y b = bits b.conditions 4 5
 
 -- a point lights if the word or byte asks it or condition bit 8 is set, the beam after the beat is in sector 0, and the beat violated nothing (H); it tells the
 -- address of the last word of the command that lit it (02, No. 5)
-unfoldable pub lit_at : Base → DisplayAddress → ℕ → ℕ → Bool → Bool → Lit
+unfoldable pub lit_at : Base → DisplayAddress → ℕ → ℕ → Bool → Bool → Option ℕ
 lit_at b lastword x y asked violated =
     pick ((asked || bit b.conditions 8) && sector_zero x y && not violated)
-    (Point (point x y b.intensity b.blink lastword.0))
-    Dark
+    (Some (point x y b.intensity b.blink lastword.0))
+    None
 
 -- a beat lights at most one point
-abbrev pub points : Lit → List ℕ
-points Dark = []
-points (Point p) = p ∷ []
+abbrev pub points : Option ℕ → List ℕ
+points None = []
+points (Some p) = p ∷ []
 
 -- the move stands, wrapped
 abbrev pub beam_at : Base → ℕ → ℕ → Base
@@ -58,9 +56,9 @@ arrived b m lastword x y asked escape =
     record {
       registers = record { base = escaped (edge_stopped (beam_at b x.value y.value) x y edge) escape; motion = m };
       lit = lit_at b lastword x.value y.value asked violated;
-      stop = pick edge Edge None;
+      stop = pick edge (Some Edge) None;
     }
 
 -- vector continue: until a move would violate; that beat moves nothing, lights nothing, sets no flag and ends the command
 unfoldable pub still_end : Base → Bool → Outcome
-still_end b escape = record { registers = record { base = escaped b escape; motion = Nothing }; lit = Dark; stop = None }
+still_end b escape = record { registers = record { base = escaped b escape; motion = Nothing }; lit = None; stop = None }

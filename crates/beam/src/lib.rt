@@ -2,37 +2,27 @@
 #![tactic(auto)]
 
 ghost use Rattle.std.specs.Prelude.{◌≡◌};
-ghost use Rattle.words.specs.Words.{pick};
 ghost use Rattle.beam.specs.DataWords.{field_x, field_y, lit_at, arrived, still_end};
 ghost use Rattle.beam.specs.Setters.{beam_set};
-ghost use Rattle.beam.specs.declared.Stop.TheVariants.{None, Edge};
 
 use addresses::DisplayAddress;
 use paper::Reached;
 use registers::{Base, Motion, Registers};
 
-// The point that a beat lights, as an entry of the point list.
-#[derive(Clone, Copy)]
-pub enum Lit {
-    Dark,
-    Point(u64),
-}
-
-// Whether a beat stops the display, and by what: a stop word, an edge, or a control character of the unused form.
+// What a beat stops the display by: a stop word, an edge, or a control character of the unused form.
 #[derive(Clone, Copy)]
 pub enum Stop {
-    None,
     Internal,
     Edge,
     Unused,
 }
 
-// What a beat leaves that stores nothing.
+// What a beat leaves that stores nothing: the registers, the point that it lights, as an entry of the point list, and what it stops the display by.
 #[derive(Clone, Copy)]
 pub struct Outcome {
     pub registers: Registers,
-    pub lit: Lit,
-    pub stop: Stop,
+    pub lit: Option<u64>,
+    pub stop: Option<Stop>,
 }
 
 fn beam_set(
@@ -57,7 +47,7 @@ fn beam_set(
     }
 }
 
-// The two condition bits of each axis's dimension.
+// The two condition bits of each axis's dimension. Two functions, which say the axis by name: an axis as a value would be told apart again in each move.
 pub fn field_x(b: Base) -> u16
     ensures { result ≡ field_x b }
 {
@@ -72,23 +62,23 @@ pub fn field_y(b: Base) -> u16
 
 // The point that a beat lights where the beam arrives, with the address of its command's last word.
 #[tactic(auto, unfolding(crate::specs::DataWords::lit_at, words::specs::Words::pick))]
-pub fn lit_at(b: Base, lastword: DisplayAddress, x: u16, y: u16, asked: bool, violated: bool) -> Lit
+pub fn lit_at(
+    b: Base,
+    lastword: DisplayAddress,
+    x: u16,
+    y: u16,
+    asked: bool,
+    violated: bool,
+) -> Option<u64>
     ensures { result ≡ lit_at b lastword x y asked violated }
 {
     let all = words::bit(b.conditions, 8);
     let screen = paper::sector_zero(x, y);
     if (asked | all) & screen & !violated {
-        Lit::Point(paper::point(x, y, b.intensity, b.blink, lastword.number()))
+        Some(paper::point(x, y, b.intensity, b.blink, lastword.number()))
     } else {
-        Lit::Dark
+        None
     }
-}
-
-#[tactic(auto, unfolding(words::specs::Words::pick))]
-fn edge_if(on: bool) -> Stop
-    ensures { result ≡ pick on Edge None }
-{
-    if on { Stop::Edge } else { Stop::None }
 }
 
 // The beam where a beat took it: point, graphplot and move beats end here.
@@ -116,7 +106,7 @@ pub fn arrived(
         b.running & !edge,
     );
     let lit = lit_at(b, lastword, x.value, y.value, asked, violated);
-    let stop = edge_if(edge);
+    let stop = words::pick(edge, Some(Stop::Edge), None);
     let registers = Registers { base, motion };
     Outcome {
         registers,
@@ -145,7 +135,7 @@ pub fn still_end(b: Base, escape: bool) -> Outcome
     };
     Outcome {
         registers,
-        lit: Lit::Dark,
-        stop: Stop::None,
+        lit: None,
+        stop: None,
     }
 }

@@ -12,7 +12,7 @@ fn skips(buttons: u16, selected: u16, sense: bool) -> bool
     ensures { result ≡ skips buttons selected sense }
 {
     let on = buttons & selected;
-    words::pick_bool(sense, on != 0, on != selected)
+    words::pick(sense, on != 0, on != selected)
 }
 
 // Six buttons, the selected ones cleared, then complemented.
@@ -20,8 +20,8 @@ fn skips(buttons: u16, selected: u16, sense: bool) -> bool
 fn changed(buttons: u16, selected: u16, clear: bool, complement: bool) -> u16
     ensures { result ≡ changed buttons selected clear complement }
 {
-    let left = words::pick_u16(clear, buttons - (buttons & selected), buttons);
-    words::pick_u16(complement, left ^ selected, left)
+    let left = words::pick(clear, buttons - (buttons & selected), buttons);
+    words::pick(complement, left ^ selected, left)
 }
 
 // A word with its left or its right six bits set.
@@ -29,7 +29,7 @@ fn changed(buttons: u16, selected: u16, clear: bool, complement: bool) -> u16
 fn with_byte(word: u16, right: bool, byte: u16) -> u16
     ensures { result ≡ with_byte word right byte }
 {
-    words::pick_u16(
+    words::pick(
         right,
         word / 64 * 64 + byte % 64,
         byte % 64 * 64 + word % 64,

@@ -3,25 +3,23 @@ use Prim.Native.Nat.{ℕ, zero, suc, ◌-◌, ◌<◌}
 use mathlib.Core.List.{List, [], ◌∷◌, ◌++◌}
 use native.Mathlib.Omega.{arith}
 use lib.ListN.{length, get_or, drop}
+use Rattle.std.specs.Prelude.{Option, None, Some}
 use Rattle.words.proofs.Laws.{pick_case}
 use Rattle.paper.specs.Entry.{Entry}
 use Rattle.registers.specs.declared.Registers.{Registers}
 use Rattle.registers.specs.Good.{Good}
 use Rattle.registers.proofs.InRange.{good}
 use Rattle.loan.specs.declared.Loan.{Loan}
-use Rattle.beam.specs.declared.Lit.{Lit}
-use Rattle.beam.specs.declared.Lit.TheVariants.{Dark, Point}
 use Rattle.beam.specs.DataWords.{points}
 use Rattle.beam.proofs.Kept.{GoodLit}
 use Rattle.touches.specs.Touches.{Turn, Fails, Rests, Does, store}
 use Rattle.turns.specs.OneTurn.{turn}
 use Rattle.turns.proofs.Fine.{FineTurn, turn_fine}
-use Rattle.endings.specs.declared.Halt.{Halt}
-use Rattle.endings.specs.declared.Halt.TheVariants.{Goes, Ends}
 use Rattle.endings.specs.Endings.{halted}
 use Rattle.runs.specs.Runs.{Run, Go, follow, onward, run, CallLeft}
 use Rattle.calls.specs.Calls.{entered, numbered, MakesEntries}
 use Rattle.calls.proofs.Case.{call_case}
+use Rattle.endings.specs.declared.Ending.{Ending}
 
 -- each of a list is made of parts in range
 abbrev Entries : List ℕ → Type 0
@@ -29,9 +27,9 @@ Entries [] = Unit {0}
 Entries (p ∷ ps) = Entry p × Entries ps
 
 -- a beat's points, and the run's behind them
-entries_with : (lit : Lit) (ps : List ℕ) → GoodLit lit → Entries ps → Entries (points lit ++ ps)
-entries_with Dark ps g h = h
-entries_with (Point p) ps g h = (g, h)
+entries_with : (lit : Option ℕ) (ps : List ℕ) → GoodLit lit → Entries ps → Entries (points lit ++ ps)
+entries_with None ps g h = h
+entries_with (Some p) ps g h = (g, h)
 
 -- the ones in front of a longer list
 entry_at : (ps rest : List ℕ) (i : ℕ) → Entries ps → i < length ps → Entry (get_or (ps ++ rest) i 0)
@@ -46,9 +44,9 @@ module _ (l : Loan) where
   onward_entries go ih room r m (Rests resting) h = tt
   onward_entries go ih room r m (Does c) h = entries_with c.lit _ h.good.lit (by (halted c.stop))
     where
-      by : (s : Halt) → Entries (follow go room m c s).lit
-      by Goes = ih (room - length (points c.lit)) c.registers h.good.registers (store c.stores m)
-      by (Ends ending) = tt
+      by : (s : Option Ending) → Entries (follow go room m c s).lit
+      by None = ih (room - length (points c.lit)) c.registers h.good.registers (store c.stores m)
+      by (Some ending) = tt
 
   run_entries : (k room : ℕ) (r : Registers) → Good r → (m : List ℕ) → Entries (run k l room r m).lit
   unfolding run

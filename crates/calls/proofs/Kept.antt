@@ -4,6 +4,7 @@ use mathlib.Core.Path.{◌≡◌}
 use mathlib.Core.Bool.{true}
 use mathlib.Core.List.{List}
 use lib.ListN.{length}
+use Rattle.std.specs.Prelude.{Option, None, Some}
 use Rattle.words.proofs.Laws.{pick_case}
 use Rattle.registers.specs.declared.Registers.{Registers}
 use Rattle.registers.specs.Registers.{in_range}
@@ -14,13 +15,12 @@ use Rattle.touches.specs.Touches.{Turn, Fails, Rests, Does, store}
 use Rattle.beam.specs.DataWords.{points}
 use Rattle.turns.specs.OneTurn.{turn}
 use Rattle.turns.proofs.Fine.{FineTurn, turn_fine}
-use Rattle.endings.specs.declared.Halt.{Halt}
-use Rattle.endings.specs.declared.Halt.TheVariants.{Goes, Ends}
 use Rattle.endings.specs.Endings.{halted}
 use Rattle.runs.specs.Runs.{Run, Go, follow, onward, run, CallLeft}
 use Rattle.calls.specs.Calls.{entered, KeepsInRange}
 use Rattle.calls.proofs.Case.{call_case}
 use Rattle.endings.proofs.Kept.{rested_good}
+use Rattle.endings.specs.declared.Ending.{Ending}
 
 module _ (l : Loan) where
   onward_good : (go : Go) → ((room : ℕ) (r : Registers) → Good r → (m : List ℕ) → Good (go room r m).registers) →
@@ -29,9 +29,9 @@ module _ (l : Loan) where
   onward_good go ih room r g m (Rests resting) h = rested_good r resting g h
   onward_good go ih room r g m (Does c) h = by (halted c.stop)
     where
-      by : (s : Halt) → Good (follow go room m c s).registers
-      by Goes = ih (room - length (points c.lit)) c.registers h.good.registers (store c.stores m)
-      by (Ends ending) = h.good.registers
+      by : (s : Option Ending) → Good (follow go room m c s).registers
+      by None = ih (room - length (points c.lit)) c.registers h.good.registers (store c.stores m)
+      by (Some ending) = h.good.registers
 
   run_good : (k room : ℕ) (r : Registers) → Good r → (m : List ℕ) → Good (run k l room r m).registers
   unfolding run

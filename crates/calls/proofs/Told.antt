@@ -4,13 +4,14 @@ use Prim.Native.Nat.{ℕ, zero, suc, ◌-◌, ◌<◌}
 use mathlib.Core.List.{List}
 use native.Mathlib.Omega.{arith}
 use lib.ListN.{length}
+use Rattle.std.specs.Prelude.{Option, None, Some}
 use Rattle.words.proofs.Laws.{pick_case}
 use Rattle.registers.specs.declared.Registers.{Registers}
 use Rattle.registers.specs.Good.{Good}
 use Rattle.registers.proofs.InRange.{good}
 use Rattle.loan.specs.declared.Loan.{Loan}
 use Rattle.beam.specs.declared.Stop.{Stop}
-use Rattle.beam.specs.declared.Stop.TheVariants.{None, Internal, Edge, Unused}
+use Rattle.beam.specs.declared.Stop.TheVariants.{Internal, Edge, Unused}
 use Rattle.beam.specs.DataWords.{points}
 use Rattle.touches.specs.declared.Resting.{Resting}
 use Rattle.touches.specs.declared.Resting.TheVariants.{External, Unusable}
@@ -22,8 +23,6 @@ use Rattle.turns.specs.OneTurn.{turn}
 use Rattle.turns.proofs.Fine.{FineTurn, turn_fine}
 use Rattle.turns.proofs.Inside.{turn_inside}
 use Rattle.endings.specs.declared.Ending.{Ending}
-use Rattle.endings.specs.declared.Halt.{Halt}
-use Rattle.endings.specs.declared.Halt.TheVariants.{Goes, Ends}
 use Rattle.endings.specs.Endings.{rest_ending, halted, why_numbers, ending_numbers, ending_address}
 use Rattle.runs.specs.Runs.{Run, Go, follow, onward, run, CallLeft}
 use Rattle.calls.specs.Calls.{entered, numbered, AddressInRange}
@@ -44,16 +43,16 @@ unfolding rest_ending ending_numbers
 rest_small (External word) = omega arith
 rest_small Unusable = omega arith
 
-abbrev SmallHalt : Halt → Type 0
-SmallHalt Goes = Unit {0}
-SmallHalt (Ends ending) = Small ending
+abbrev SmallHalt : Option Ending → Type 0
+SmallHalt None = Unit {0}
+SmallHalt (Some ending) = Small ending
 
-halted_small : (s : Stop) → SmallHalt (halted s)
+halted_small : (s : Option Stop) → SmallHalt (halted s)
 unfolding halted ending_numbers
 halted_small None = tt
-halted_small Internal = omega arith
-halted_small Edge = omega arith
-halted_small Unused = omega arith
+halted_small (Some Internal) = omega arith
+halted_small (Some Edge) = omega arith
+halted_small (Some Unused) = omega arith
 
 module _ (l : Loan) where
   onward_small : (go : Go) → ((room : ℕ) (r : Registers) → Good r → (m : List ℕ) → Small (go room r m).ending) →
@@ -63,9 +62,9 @@ module _ (l : Loan) where
   onward_small go ih room r m (Rests resting) g h = rest_small resting
   onward_small go ih room r m (Does c) g h = by (halted c.stop) (halted_small c.stop)
     where
-      by : (s : Halt) → SmallHalt s → Small (follow go room m c s).ending
-      by Goes q = ih (room - length (points c.lit)) c.registers g.good.registers (store c.stores m)
-      by (Ends ending) q = q
+      by : (s : Option Ending) → SmallHalt s → Small (follow go room m c s).ending
+      by None q = ih (room - length (points c.lit)) c.registers g.good.registers (store c.stores m)
+      by (Some ending) q = q
 
   run_small : (k room : ℕ) (r : Registers) → Good r → (m : List ℕ) → Small (run k l room r m).ending
   unfolding run ending_numbers

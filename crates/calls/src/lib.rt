@@ -28,6 +28,7 @@ fn enter(r: Registers, l: Loan, memory: &mut [u16], points: &mut [u64], budget: 
     }
 }
 
+// With its number, as 01 has it in the answer.
 fn refused(r: Registers, number: u8) -> Ran
     ensures { result ≡ refused_run r number }
 {

@@ -4,7 +4,7 @@ use Prim.Native.Nat.{ℕ, ◌≤◌, ◌<◌}
 use mathlib.Core.Path.{◌≡◌, refl}
 use mathlib.Core.Bool.{Bool}
 use native.Mathlib.Omega.{arith}
-use Rattle.std.specs.Prelude.{nat_eq}
+use Rattle.std.specs.Prelude.{nat_eq, None}
 use Rattle.words.specs.Words.{bit}
 use Rattle.words.proofs.Laws.{pick_case}
 use Rattle.addresses.specs.declared.DisplayAddress.{DisplayAddress}
@@ -12,7 +12,6 @@ use Rattle.registers.specs.declared.Base.{Base}
 use Rattle.registers.specs.declared.CharacterMotion.{CharacterMotion}
 use Rattle.registers.specs.declared.Motion.{Motion}
 use Rattle.registers.specs.Good.{GoodBase, GoodMotion}
-use Rattle.beam.specs.declared.Lit.TheVariants.{Dark}
 use Rattle.beam.specs.declared.Outcome.{Outcome}
 use Rattle.beam.proofs.Kept.{GoodOutcome}
 use Rattle.moves.proofs.KeptCharacters.{after_word_good}
@@ -31,9 +30,9 @@ table_good b c w g h =
     pick_case GoodOutcome (bit w 0) (λ _. control_good b c w g h)
     (λ _. record { registers = record { base = g; motion = record { word = h; stage = start_small b.starting w } }; lit = tt })
 
-pub table_dark : (b : Base) (c : CharacterMotion) (w : ℕ) → (table_word b c w).lit ≡ Dark
+pub table_dark : (b : Base) (c : CharacterMotion) (w : ℕ) → (table_word b c w).lit ≡ None
 unfolding table_word
-table_dark b c w = pick_case (λ (o : Outcome). o.lit ≡ Dark) (bit w 0) (λ _. control_dark b c w) (λ _. refl)
+table_dark b c w = pick_case (λ (o : Outcome). o.lit ≡ None) (bit w 0) (λ _. control_dark b c w) (λ _. refl)
 
 increments_good : (c : CharacterMotion) (at : DisplayAddress) (w : ℕ) (datastate : Bool) (mode : ℕ) → c.word < 4096 → at.0 < 32768 → w ≤ 4095 →
     GoodMotion (routine_increments c at w) datastate mode
@@ -59,6 +58,6 @@ routine_good b c short at w g h a k =
       lit = tt;
     }
 
-pub routine_dark : (b : Base) (c : CharacterMotion) (short : Bool) (at : DisplayAddress) (w : ℕ) → (routine_word b c short at w).lit ≡ Dark
+pub routine_dark : (b : Base) (c : CharacterMotion) (short : Bool) (at : DisplayAddress) (w : ℕ) → (routine_word b c short at w).lit ≡ None
 unfolding routine_word
 routine_dark b c short at w = refl

@@ -23,10 +23,10 @@ fn code(c: CharacterMotion, upper: bool) -> u16
     ensures { result ≡ code c upper }
 {
     let six = registers::byte_at(c.word, c.right);
-    words::pick_u16(
+    words::pick(
         c.seven,
         words::bits(c.word, 5, 11),
-        words::pick_u16(upper, 64, 0) + six,
+        words::pick(upper, 64, 0) + six,
     )
 }
 

@@ -66,14 +66,14 @@ fn mode_set(
 pub fn scale_by(word: u16, old: u8) -> u8
     ensures { result ≡ scale_by word old }
 {
-    words::pick_u8(words::bit(word, 3), words::bits(word, 4, 5) as u8, old)
+    words::pick(words::bit(word, 3), words::bits(word, 4, 5) as u8, old)
 }
 
 #[tactic(auto, unfolding(crate::specs::ControlWords::pen_by))]
 pub fn pen_by(word: u16, old: bool) -> bool
     ensures { result ≡ pen_by word old }
 {
-    words::pick_bool(words::bit(word, 6), words::bit(word, 7), old)
+    words::pick(words::bit(word, 6), words::bit(word, 7), old)
 }
 
 // Intensity by its enable bit, as word 0 and the parameter character share it.
@@ -81,7 +81,7 @@ pub fn pen_by(word: u16, old: bool) -> bool
 pub fn intensity_by(word: u16, old: u8) -> u8
     ensures { result ≡ intensity_by word old }
 {
-    words::pick_u8(words::bit(word, 8), words::bits(word, 9, 11) as u8, old)
+    words::pick(words::bit(word, 8), words::bits(word, 9, 11) as u8, old)
 }
 
 // 0: scale, pen, intensity.
@@ -109,8 +109,8 @@ pub fn parameter(b: Base, word: u16) -> Base
 fn coordinate(word: u16, value: u16) -> u16
     ensures { result ≡ coordinate word value }
 {
-    let low = words::pick_u16(words::bit(word, 9), value % 1024, value);
-    words::pick_u16(words::bit(word, 10), low / 1024 * 1024, low)
+    let low = words::pick(words::bit(word, 9), value % 1024, value);
+    words::pick(words::bit(word, 10), low / 1024 * 1024, low)
 }
 
 // 1: stop, hit flags, mode, coordinates, data state.
@@ -121,7 +121,7 @@ pub fn mode(b: Base, word: u16) -> Base
     let stop = words::bit(word, 3);
     let clear = words::bit(word, 4);
     let enter = words::bit(word, 11);
-    let number = words::pick_u8(words::bit(word, 5), words::bits(word, 6, 8) as u8, b.mode);
+    let number = words::pick(words::bit(word, 5), words::bits(word, 6, 8) as u8, b.mode);
     let x = coordinate(word, b.x);
     let y = coordinate(word, b.y);
     mode_set(
@@ -200,11 +200,11 @@ pub fn pop(b: Base, word: u16, first: u16, second: u16) -> Base
     ensures { result ≡ pop b word first second }
 {
     let address = DisplayAddress::in_field(words::bits(first, 0, 2), second);
-    let mode = words::pick_u8(!words::bit(word, 8), words::bits(first, 6, 8) as u8, b.mode);
+    let mode = words::pick(!words::bit(word, 8), words::bits(first, 6, 8) as u8, b.mode);
     let inhibit = words::bit(word, 9);
-    let scale = words::pick_u8(!inhibit, words::bits(first, 4, 5) as u8, b.scale);
-    let pen = words::pick_bool(!inhibit, words::bit(first, 3), b.pen);
-    let intensity = words::pick_u8(
+    let scale = words::pick(!inhibit, words::bits(first, 4, 5) as u8, b.scale);
+    let pen = words::pick(!inhibit, words::bit(first, 3), b.pen);
+    let intensity = words::pick(
         !words::bit(word, 10),
         words::bits(first, 9, 11) as u8,
         b.intensity,

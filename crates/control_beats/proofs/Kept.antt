@@ -2,7 +2,7 @@
 -- control's and skips'. Assumes nothing.
 use Prim.Native.Nat.{ℕ}
 use mathlib.Core.Bool.{true, false}
-use Rattle.std.specs.Prelude.{nat_eq}
+use Rattle.std.specs.Prelude.{nat_eq, None}
 use Rattle.words.specs.Words.{bit, bits}
 use Rattle.words.proofs.Laws.{pick_case}
 use Rattle.registers.specs.declared.Base.{Base}
@@ -12,13 +12,12 @@ use Rattle.registers.proofs.Setting.{held_set}
 use Rattle.control.proofs.Kept.{parameter_good, mode_good, jump_good, push_good, pop_good}
 use Rattle.skips.proofs.Kept.{skipping_good, flag_skip_good, count_good, sync_good}
 use Rattle.button_skips.proofs.Kept.{button_skip_good, compare_good}
-use Rattle.beam.specs.declared.Lit.TheVariants.{Dark}
 use Rattle.beam.proofs.Kept.{GoodLeft}
 use Rattle.touches.proofs.Kept.{GoodAct, GoodBeat}
 use Rattle.control_beats.specs.ControlWords.{hold_ended, ready, push_act, jump_beat, pop_beat, miscellaneous, control_beat}
 
 -- a control word lights nothing and begins no motion
-dark : {b : Base} → GoodBase b → GoodLeft (record { base = b; motion = Nothing }) Dark
+dark : {b : Base} → GoodBase b → GoodLeft (record { base = b; motion = Nothing }) None
 dark g = record { registers = record { base = g; motion = tt }; lit = tt }
 
 pub hold_ended_good : (b : Base) → GoodBase b → GoodBase (hold_ended b)

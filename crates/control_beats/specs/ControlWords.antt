@@ -1,21 +1,18 @@
 -- Section 'Control words' of 01, with their touches of 'One turn of a run': the beat of each control word, and how every command beat begins. What the words
 -- set is in the files of this name of control, skips and button_skips. Assumes nothing.
-use Rattle.std.specs.Prelude.{ℕ, true, false, ◌||◌, nat_eq}
+use Rattle.std.specs.Prelude.{ℕ, true, false, ◌||◌, nat_eq, Option, None, Some}
 use Rattle.words.specs.Words.{bit, bits, pick}
 use Rattle.addresses.specs.Addresses.{address_after, pointer_after, pointer_before, field_zero}
 use Rattle.registers.specs.declared.Base.{Base}
-use Rattle.registers.specs.declared.Held.TheVariants.{Empty}
 use Rattle.registers.specs.declared.Motion.TheVariants.{Nothing}
 use Rattle.registers.specs.With.{with_pen, with_hold, with_held}
 use Rattle.control.specs.ControlWords.{parameter, mode, jump, push, pushed_first, pushed_second, pop}
 use Rattle.skips.specs.ControlWords.{flag_skip, count, sync, skipping}
 use Rattle.button_skips.specs.ControlWords.{button_skip, compare}
-use Rattle.beam.specs.declared.Lit.TheVariants.{Dark}
 use Rattle.beam.specs.declared.Stop.{Stop}
-use Rattle.beam.specs.declared.Stop.TheVariants.{None, Internal}
+use Rattle.beam.specs.declared.Stop.TheVariants.{Internal}
 use Rattle.beam.specs.declared.Outcome.{Outcome}
 use Rattle.touches.specs.declared.Act.{Act}
-use Rattle.touches.specs.declared.Stores.TheVariants.{Two}
 use Rattle.touches.specs.Touches.{Beat, fetch, act, whole}
 
 -- pen hold ends if it is on: pen enable on, hold off
@@ -24,13 +21,13 @@ hold_ended b = with_hold (with_pen b (b.pen || b.hold)) false
 
 -- a command beat, of a control word or a data word, first ends pen hold; the held word is used up (02, No. 4)
 abbrev pub ready : Base → Base
-ready b = with_held (hold_ended b) Empty
+ready b = with_held (hold_ended b) None
 
 -- a control word that stores nothing: registers, no motion, no point
-abbrev pub done : Base → Stop → Outcome
-done b stop = record { registers = record { base = b; motion = Nothing }; lit = Dark; stop = stop }
+abbrev pub done : Base → Option Stop → Outcome
+done b stop = record { registers = record { base = b; motion = Nothing }; lit = None; stop = stop }
 
-abbrev pub acted : Base → Stop → Act
+abbrev pub acted : Base → Option Stop → Act
 acted b stop = whole (done b stop)
 
 -- a push jump writes at the pointer and pointer+1
@@ -38,8 +35,14 @@ unfoldable pub push_act : Base → ℕ → ℕ → Act
 push_act b w v =
     record {
       registers = record { base = push b w v; motion = Nothing };
-      stores = Two (field_zero b.pointer) (pushed_first b) (field_zero (pointer_after b.pointer 1)) (pushed_second b);
-      lit = Dark;
+      stores =
+          Some (record {
+            at = field_zero b.pointer;
+            word = pushed_first b;
+            next = field_zero (pointer_after b.pointer 1);
+            second = pushed_second b;
+          });
+      lit = None;
       stop = None;
     }
 
@@ -69,7 +72,7 @@ unfoldable pub control_beat : Base → ℕ → Beat
 control_beat b w =
     let operation = bits w 0 2 in
     pick (nat_eq operation 0) (act (acted (parameter b w) None))
-    (pick (nat_eq operation 1) (act (acted (mode b w) (pick (bit w 3) Internal None)))
+    (pick (nat_eq operation 1) (act (acted (mode b w) (pick (bit w 3) (Some Internal) None)))
     (pick (nat_eq operation 2) (jump_beat b w)
     (pick (nat_eq operation 3) (pop_beat b w)
     (pick (nat_eq operation 4) (act (acted (button_skip b w false) None))

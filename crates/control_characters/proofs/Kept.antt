@@ -3,6 +3,7 @@ use Prim.Native.Nat.{ℕ, ◌<◌}
 use mathlib.Core.Path.{◌≡◌, refl}
 use mathlib.Core.Bool.{Bool}
 use native.Mathlib.Omega.{arith}
+use Rattle.std.specs.Prelude.{None}
 use Rattle.words.specs.Words.{bit, pick}
 use Rattle.words.proofs.Laws.{pick_case}
 use Rattle.registers.specs.declared.Base.{Base}
@@ -12,7 +13,6 @@ use Rattle.registers.specs.Good.{GoodBase, GoodMotion}
 use Rattle.registers.proofs.Setting.{x_set, scale_set, intensity_set, starting_set}
 use Rattle.control.proofs.Kept.{scale_small, intensity_small}
 use Rattle.skips.proofs.Kept.{counted_small}
-use Rattle.beam.specs.declared.Lit.TheVariants.{Dark}
 use Rattle.beam.specs.declared.Outcome.{Outcome}
 use Rattle.beam.proofs.Kept.{GoodOutcome}
 use Rattle.moves.proofs.KeptCharacters.{after_good}
@@ -56,6 +56,6 @@ control_good b c w g h =
     })
     (record { registers = record { base = g; motion = after_good c h _ _ }; lit = tt })
 
-pub control_dark : (b : Base) (c : CharacterMotion) (w : ℕ) → (control_character b c w).lit ≡ Dark
+pub control_dark : (b : Base) (c : CharacterMotion) (w : ℕ) → (control_character b c w).lit ≡ None
 unfolding control_character unused
-control_dark b c w = formed (λ (o : Outcome). o.lit ≡ Dark) _ _ _ refl refl refl refl
+control_dark b c w = formed (λ (o : Outcome). o.lit ≡ None) _ _ _ refl refl refl refl

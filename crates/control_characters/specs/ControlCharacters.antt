@@ -1,6 +1,6 @@
 -- The control characters of the character generator (02, No. 6; manual, A1.1), in the appendix's order: what each form sets in the registers, and what it leaves.
 -- Pen hold is ended before. Assumes nothing.
-use Rattle.std.specs.Prelude.{ℕ, ◌+◌, ◌*◌, ◌/◌, ◌%◌, false, nat_eq}
+use Rattle.std.specs.Prelude.{ℕ, ◌+◌, ◌*◌, ◌/◌, ◌%◌, false, nat_eq, None, Some}
 use Rattle.words.specs.Words.{bit, bits, pick}
 use Rattle.registers.specs.declared.Base.{Base}
 use Rattle.registers.specs.declared.CharacterMotion.{CharacterMotion}
@@ -9,7 +9,6 @@ use Rattle.registers.specs.declared.Motion.TheVariants.{Nothing}
 use Rattle.registers.specs.With.{with_x, with_scale, with_intensity, with_starting, with_running, with_upper, with_seven}
 use Rattle.control.specs.ControlWords.{intensity_by, scale_and_pen}
 use Rattle.skips.specs.ControlWords.{counted}
-use Rattle.beam.specs.declared.Lit.TheVariants.{Dark}
 use Rattle.beam.specs.declared.Stop.TheVariants.{Unused}
 use Rattle.beam.specs.declared.Outcome.{Outcome}
 use Rattle.beam.specs.DataWords.{escaped}
@@ -48,7 +47,7 @@ miscellaneous b w = escaped (stepped (returned (sized b w) w) w) (bit w 6)
 
 -- "a control word of the unused fourth form stops as an unusable mode": running off, no flag; the beat "ends that character" (02, No. 6)
 unfoldable pub unused : Base → Motion → Outcome
-unused b after = record { registers = record { base = with_running b false; motion = after }; lit = Dark; stop = Unused }
+unused b after = record { registers = record { base = with_running b false; motion = after }; lit = None; stop = Some Unused }
 
 -- a control character by bits 1 and 2; behind it comes the next character, but "its escape to control state drops the right one"
 unfoldable pub control_character : Base → CharacterMotion → ℕ → Outcome

@@ -5,7 +5,7 @@ ghost use Rattle.std.specs.Prelude.{◌≡◌};
 ghost use Rattle.control_characters.specs.ControlCharacters.{parameter, starting_by, table, miscellaneous, unused, control_character};
 ghost use Rattle.control_characters.specs.Setters.{generator_set};
 
-use beam::{Lit, Outcome, Stop};
+use beam::{Outcome, Stop};
 use registers::{Base, CharacterMotion, Motion, Registers};
 
 fn generator_set(
@@ -60,8 +60,8 @@ fn parameter(b: Base, word: u16) -> Base
 fn starting_by(word: u16, old: u8) -> u8
     ensures { result ≡ starting_by word old }
 {
-    let high = words::pick_u8(words::bit(word, 4), words::bits(word, 6, 8) as u8, old / 8);
-    let low = words::pick_u8(words::bit(word, 5), words::bits(word, 9, 11) as u8, old % 8);
+    let high = words::pick(words::bit(word, 4), words::bits(word, 6, 8) as u8, old / 8);
+    let low = words::pick(words::bit(word, 5), words::bits(word, 9, 11) as u8, old % 8);
     high * 8 + low
 }
 
@@ -88,8 +88,8 @@ fn table(b: Base, word: u16) -> Base
 fn miscellaneous(b: Base, word: u16) -> Base
     ensures { result ≡ miscellaneous b word }
 {
-    let seven = words::pick_bool(words::bit(word, 3), words::bit(word, 4), b.seven);
-    let x = words::pick_u16(words::bit(word, 5), b.x / 1024 * 1024, b.x);
+    let seven = words::pick(words::bit(word, 3), words::bit(word, 4), b.seven);
+    let x = words::pick(words::bit(word, 5), b.x / 1024 * 1024, b.x);
     let scale = skips::counted(b.scale, 3, words::bit(word, 7), words::bit(word, 8));
     let intensity = skips::counted(b.intensity, 7, words::bit(word, 9), words::bit(word, 10));
     generator_set(
@@ -120,8 +120,8 @@ fn unused(b: Base, after: Motion) -> Outcome
     };
     Outcome {
         registers,
-        lit: Lit::Dark,
-        stop: Stop::Unused,
+        lit: None,
+        stop: Some(Stop::Unused),
     }
 }
 
@@ -130,6 +130,7 @@ fn unused(b: Base, after: Motion) -> Outcome
 pub fn control_character(b: Base, c: CharacterMotion, word: u16) -> Outcome
     ensures { result ≡ control_character b c word }
 {
+    // A number, and no enum: one would be made of these bits by this same match.
     let form = words::bits(word, 1, 2);
     match form {
         0 => drawing::unlit(parameter(b, word), moves::after_character(c)),

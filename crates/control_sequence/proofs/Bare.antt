@@ -5,42 +5,36 @@ use mathlib.Core.Path.{◌≡◌, refl}
 use mathlib.Core.Bool.{true, ◌||◌}
 use mathlib.Core.List.{List}
 use native.Mathlib.Omega.{arith}
-use Rattle.std.specs.Prelude.{nat_eq}
+use Rattle.std.specs.Prelude.{nat_eq, Option, None, Some, Result, Ok, Err}
 use Rattle.words.specs.Words.{bit, bits}
 use Rattle.words.proofs.Laws.{pick_case}
 use Rattle.addresses.specs.declared.DisplayAddress.{DisplayAddress}
 use Rattle.registers.specs.declared.Base.{Base}
-use Rattle.registers.specs.declared.Held.{Held}
-use Rattle.registers.specs.declared.Held.TheVariants.{Empty, Holds}
 use Rattle.registers.specs.declared.Motion.TheVariants.{Nothing}
-use Rattle.beam.specs.declared.Lit.TheVariants.{Dark}
+use Rattle.touches.specs.declared.Why.{Why}
 use Rattle.loan.specs.declared.Loan.{Loan}
 use Rattle.loan.specs.Loan.{may_store}
 use Rattle.touches.specs.declared.Act.{Act}
-use Rattle.touches.specs.declared.Got.{Got}
-use Rattle.touches.specs.declared.Got.TheVariants.{Word, Not}
-use Rattle.touches.specs.declared.Stores.{Stores}
-use Rattle.touches.specs.declared.Stores.TheVariants.{Nowhere, Two}
+use Rattle.touches.specs.declared.Push.{Push}
 use Rattle.touches.specs.Touches.{Beat, fetch, act, rest, taking_by, Turn, Fails, Rests, Does, fetched, on_got, allowed, walk, store}
-use Rattle.endings.specs.declared.Halt.{Halt}
-use Rattle.endings.specs.declared.Halt.TheVariants.{Goes, Ends}
 use Rattle.endings.specs.Endings.{halted}
 use Rattle.control_beats.specs.ControlWords.{ready, push_act, jump_beat, pop_beat, control_beat}
 use Rattle.control_sequence.specs.Sequence.{next_word, ObeyedLeft, Go, follow, on_turn, obey}
+use Rattle.endings.specs.declared.Ending.{Ending}
 
 -- WHAT A CONTROL WORD DOES
 
 abbrev pub BareAct : Act → Type 0
-BareAct c = (c.lit ≡ Dark) × (c.registers.motion ≡ Nothing)
+BareAct c = (c.lit ≡ None) × (c.registers.motion ≡ Nothing)
 
 abbrev BareBeat : Beat → Type 0
 BareBeat (fetch a k) = (w : ℕ) → BareBeat (k w)
 BareBeat (act c) = BareAct c
 BareBeat (rest resting) = ⊥
 
-taking_bare : (a : DisplayAddress) (k : ℕ → Beat) (h : Held) → ((w : ℕ) → BareBeat (k w)) → BareBeat (taking_by a k h)
-taking_bare a k Empty i = i
-taking_bare a k (Holds word) i = i word
+taking_bare : (a : DisplayAddress) (k : ℕ → Beat) (h : Option ℕ) → ((w : ℕ) → BareBeat (k w)) → BareBeat (taking_by a k h)
+taking_bare a k None i = i
+taking_bare a k (Some word) i = i word
 
 abbrev pub Bare : Turn → Type 0
 Bare (Fails why) = Unit {0}
@@ -68,19 +62,19 @@ control_bare b w =
     (λ _. pick_case BareBeat (nat_eq operation 6) (λ _. (refl, refl)) (λ _. (refl, refl))))))))
 
 module _ (l : Loan) (m : List ℕ) where
-  allowed_bare : (c : Act) → BareAct c → (s : Stores) → Bare (allowed l c s)
+  allowed_bare : (c : Act) → BareAct c → (s : Option Push) → Bare (allowed l c s)
   unfolding allowed
-  allowed_bare c h Nowhere = h
-  allowed_bare c h (Two at word next second) =
-      pick_case Bare (may_store l at) (λ _. pick_case Bare (may_store l next) (λ _. h) (λ _. tt)) (λ _. tt)
+  allowed_bare c h None = h
+  allowed_bare c h (Some push) =
+      pick_case Bare (may_store l push.at) (λ _. pick_case Bare (may_store l push.next) (λ _. h) (λ _. tt)) (λ _. tt)
 
   beat_bare : (b : Beat) → BareBeat b → Bare (walk l m b)
   unfolding walk
   beat_bare (fetch a k) h = by (λ w. beat_bare (k w) (h w)) (fetched l m a)
     where
-      by : ((w : ℕ) → Bare (walk l m (k w))) → (g : Got) → Bare (on_got (λ w. walk l m (k w)) g)
-      by ih (Word w) = ih w
-      by ih (Not why) = tt
+      by : ((w : ℕ) → Bare (walk l m (k w))) → (g : Result ℕ Why) → Bare (on_got (λ w. walk l m (k w)) g)
+      by ih (Ok w) = ih w
+      by ih (Err why) = tt
   beat_bare (act c) h = allowed_bare c h c.stores
   beat_bare (rest resting) h = absurd h
 
@@ -90,18 +84,18 @@ module _ (l : Loan) (m : List ℕ) where
 -- WHERE A SEQUENCE GOES ON
 
 abbrev Reached : ObeyedLeft → Type 0
-Reached f = f.obeyed.halt ≡ Goes → 0 < f.obeyed.left → (f.obeyed.base.datastate || f.obeyed.base.request) ≡ true
+Reached f = f.obeyed.halt ≡ None → 0 < f.obeyed.left → (f.obeyed.base.datastate || f.obeyed.base.request) ≡ true
 
 turn_reached : (go : Go) → ((b : Base) (m : List ℕ) → Reached (go b m)) → (n : ℕ) (b : Base) (m : List ℕ) (t : Turn) → Bare t → Reached (on_turn go n b m t)
 turn_reached go ih n b m (Fails why) h = λ e. absurd (let z : ◌≡◌ {A = ℕ} 0 1 = cc in omega arith)
 turn_reached go ih n b m (Rests resting) h = absurd h
 turn_reached go ih n b m (Does c) h = by (halted c.stop)
   where
-    by : (s : Halt) → Reached (follow go n m c s)
-    by Goes = ih c.registers.base (store c.stores m)
-    by (Ends ending) = λ e. absurd (let z : ◌≡◌ {A = ℕ} 0 1 = cc in omega arith)
+    by : (s : Option Ending) → Reached (follow go n m c s)
+    by None = ih c.registers.base (store c.stores m)
+    by (Some ending) = λ e. absurd (let z : ◌≡◌ {A = ℕ} 0 1 = cc in omega arith)
 
-pub reached : (n : ℕ) (l : Loan) (b : Base) (m : List ℕ) → (obey n l b m).obeyed.halt ≡ Goes → 0 < (obey n l b m).obeyed.left →
+pub reached : (n : ℕ) (l : Loan) (b : Base) (m : List ℕ) → (obey n l b m).obeyed.halt ≡ None → 0 < (obey n l b m).obeyed.left →
     ((obey n l b m).obeyed.base.datastate || (obey n l b m).obeyed.base.request) ≡ true
 unfolding obey
 reached zero l b m = λ _ h. absurd (omega arith)

@@ -1,6 +1,6 @@
 -- Section 'Data words' of 01: what the command beat of each mode does with its words, in 01's order. Move beats are in moves' file of this name. Assumes
 -- nothing.
-use Rattle.std.specs.Prelude.{ℕ, ◌+◌, ◌*◌, ◌/◌, Bool, true, false, not, nat_eq}
+use Rattle.std.specs.Prelude.{ℕ, ◌+◌, ◌*◌, ◌/◌, Bool, true, false, not, nat_eq, None}
 use Rattle.words.specs.Words.{bit, bits, pick}
 use Rattle.addresses.specs.declared.DisplayAddress.{DisplayAddress}
 use Rattle.addresses.specs.Addresses.{address_after}
@@ -13,8 +13,6 @@ use Rattle.registers.specs.declared.Motion.{Motion}
 use Rattle.registers.specs.declared.Motion.TheVariants.{Nothing, Line, Bytes, Character}
 use Rattle.registers.specs.Registers.{larger, byte_at, moves_asked}
 use Rattle.registers.specs.With.{with_address}
-use Rattle.beam.specs.declared.Lit.TheVariants.{Dark}
-use Rattle.beam.specs.declared.Stop.TheVariants.{None}
 use Rattle.beam.specs.declared.Outcome.{Outcome}
 use Rattle.beam.specs.DataWords.{field_x, field_y, escaped, arrived}
 
@@ -31,7 +29,7 @@ second_word b = address_after b.address 1
 
 -- a command beat that lights nothing and stops nothing
 abbrev pub unlit : Base → Motion → Outcome
-unlit b m = record { registers = record { base = b; motion = m }; lit = Dark; stop = None }
+unlit b m = record { registers = record { base = b; motion = m }; lit = None; stop = None }
 
 -- bits 2 to 11 go into the low ten bits, the high three remain; bit 1 inhibits (manual 2.2.1)
 unfoldable pub placed : ℕ → ℕ → Bool → Reached

@@ -7,7 +7,7 @@ ghost use Rattle.drawing.specs.Setters.{state_set};
 ghost use Rattle.drawing.specs.DataWords.{unlit, placed, point, increment, vector_line, short_line, begun, vector, short_vector, character, graphplot};
 
 use addresses::DisplayAddress;
-use beam::{Lit, Outcome, Stop};
+use beam::{Outcome, Stop};
 use paper::Reached;
 use registers::{Base, ByteMotion, CharacterMotion, LineMotion, Motion, Registers, Stage};
 
@@ -28,8 +28,8 @@ pub fn unlit(base: Base, motion: Motion) -> Outcome
     let registers = Registers { base, motion };
     Outcome {
         registers,
-        lit: Lit::Dark,
-        stop: Stop::None,
+        lit: None,
+        stop: None,
     }
 }
 
@@ -38,7 +38,7 @@ pub fn unlit(base: Base, motion: Motion) -> Outcome
 fn placed(word: u16, old: u16, inhibit: bool) -> Reached
     ensures { result ≡ placed word old inhibit }
 {
-    let value = words::pick_u16(!inhibit, old / 1024 * 1024 + words::bits(word, 2, 11), old);
+    let value = words::pick(!inhibit, old / 1024 * 1024 + words::bits(word, 2, 11), old);
     Reached {
         value,
         violated: false,
@@ -101,7 +101,7 @@ fn vector_line(word: u16, second: u16) -> LineMotion
     }
 }
 
-// The line of a short vector's word.
+// The line of a short vector's word. No one function with `vector_line`: each field would be a parameter.
 #[tactic(auto, unfolding(crate::specs::DataWords::short_line))]
 pub fn short_line(word: u16) -> LineMotion
     ensures { result ≡ short_line word }

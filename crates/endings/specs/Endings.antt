@@ -1,11 +1,10 @@
 -- Section 'Refused calls and run endings' of 01: what a stop, a rest or a failure makes of a run, and the endings' numbers, with Nos. 1 and 4 of 02.
 -- Assumes nothing.
-use Rattle.std.specs.Prelude.{ℕ, Bool, true, false, ◌||◌, nat_eq}
+use Rattle.std.specs.Prelude.{ℕ, Bool, true, false, ◌||◌, nat_eq, Option, None, Some}
 use Rattle.registers.specs.declared.Registers.{Registers}
-use Rattle.registers.specs.declared.Held.TheVariants.{Holds}
 use Rattle.registers.specs.With.{with_running, with_request, with_external, with_held}
 use Rattle.beam.specs.declared.Stop.{Stop}
-use Rattle.beam.specs.declared.Stop.TheVariants.{None, Internal, Edge, Unused}
+use Rattle.beam.specs.declared.Stop.TheVariants.{Internal, Edge, Unused}
 use Rattle.touches.specs.declared.Resting.{Resting}
 use Rattle.touches.specs.declared.Resting.TheVariants.{External, Unusable}
 use Rattle.touches.specs.declared.Why.{Why}
@@ -13,13 +12,11 @@ use Rattle.touches.specs.declared.Why.TheVariants.{Fetch, Store, Wide, Full}
 use Rattle.endings.specs.declared.Ending.{Ending}
 use Rattle.endings.specs.declared.Ending.TheVariants.{NotRunning, BudgetSpent, InternalStop, ExternalStop, EdgeStop, UnusableMode, Failed}
 use Rattle.endings.specs.declared.EndingNumbers.{EndingNumbers}
-use Rattle.endings.specs.declared.Halt.{Halt}
-use Rattle.endings.specs.declared.Halt.TheVariants.{Goes, Ends}
 
 -- a stop request: request off, external flag on, running off, 13, and the next command's first word is held (02, No. 4); an unusable mode: running off, 15, no flag
 unfoldable pub rested : Registers → Resting → Registers
 rested r (External word) =
-    record { base = with_held (with_running (with_external (with_request r.base false) true) false) (Holds word); motion = r.motion }
+    record { base = with_held (with_running (with_external (with_request r.base false) true) false) (Some word); motion = r.motion }
 rested r Unusable = record { base = with_running r.base false; motion = r.motion }
 
 unfoldable pub rest_ending : Resting → Ending
@@ -27,11 +24,11 @@ rest_ending (External word) = ExternalStop
 rest_ending Unusable = UnusableMode
 
 -- a beat that stops the display ends the run with 12 or 14; a control character of the unused form "stops as an unusable mode" (02, No. 6)
-unfoldable pub halted : Stop → Halt
-halted None = Goes
-halted Internal = Ends InternalStop
-halted Edge = Ends EdgeStop
-halted Unused = Ends UnusableMode
+unfoldable pub halted : Option Stop → Option Ending
+halted None = None
+halted (Some Internal) = Some InternalStop
+halted (Some Edge) = Some EdgeStop
+halted (Some Unused) = Some UnusableMode
 
 -- THIS PAPER'S NUMBERS for each ending
 

@@ -5,7 +5,7 @@ ghost use Rattle.std.specs.Prelude.{◌≡◌};
 ghost use Rattle.endings.specs.Endings.{rested, rest_ending, halted, numbers, why_numbers, ending_numbers, at_fence};
 
 use beam::Stop;
-use registers::{Base, Held, Registers};
+use registers::{Base, Registers};
 use touches::{Resting, Why};
 
 // How a run ended. What could not be made says why, with the address of the touch.
@@ -20,14 +20,7 @@ pub enum Ending {
     Failed(Why),
 }
 
-// Whether the run goes on after a beat.
-#[derive(Clone, Copy)]
-pub enum Halt {
-    Goes,
-    Ends(Ending),
-}
-
-// An ending's number, and the address of the word that the fence stopped; 0 where it stopped none.
+// 01's number of an ending, which the C interface tells, and the address of the word that the fence stopped; 0 where it stopped none.
 #[derive(Clone, Copy)]
 pub struct EndingNumbers {
     pub number: u8,
@@ -47,7 +40,7 @@ pub fn rested(r: Registers, resting: Resting) -> Registers
                 request: false,
                 external: true,
                 running: false,
-                held: Held::Holds(word),
+                held: Some(word),
                 ..b
             };
             Registers { base, motion }
@@ -74,14 +67,14 @@ pub fn rest_ending(resting: Resting) -> Ending
 
 // A beat that stops the display ends the run.
 #[tactic(auto, unfolding(crate::specs::Endings::halted))]
-pub fn halted(stop: Stop) -> Halt
+pub fn halted(stop: Option<Stop>) -> Option<Ending>
     ensures { result ≡ halted stop }
 {
     match stop {
-        Stop::None => Halt::Goes,
-        Stop::Internal => Halt::Ends(Ending::InternalStop),
-        Stop::Edge => Halt::Ends(Ending::EdgeStop),
-        Stop::Unused => Halt::Ends(Ending::UnusableMode),
+        None => None,
+        Some(Stop::Internal) => Some(Ending::InternalStop),
+        Some(Stop::Edge) => Some(Ending::EdgeStop),
+        Some(Stop::Unused) => Some(Ending::UnusableMode),
     }
 }
 

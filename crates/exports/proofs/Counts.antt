@@ -2,37 +2,35 @@
 -- a listing's length there is listing's Longest.antt. Assumes nothing.
 use Prim.Native.Nat.{ℕ, zero, suc, ◌≤◌, ◌<◌}
 use mathlib.Core.List.{List}
+use Rattle.std.specs.Prelude.{Result, Ok, Err}
 use lib.ListN.{length, length-append}
 use native.Mathlib.Omega.{arith}
 use borrow.Author.Tests.{leb-true}
+use Rattle.std.specs.Prelude.{Option, None, Some}
 use Rattle.words.proofs.Laws.{pick_case}
 use Rattle.registers.specs.declared.Registers.{Registers}
-use Rattle.host.specs.declared.Reply.{Reply}
-use Rattle.host.specs.declared.Reply.TheVariants.{Refused, Done}
+use Rattle.host.specs.declared.refusal.Refusal.{Refusal}
 use Rattle.host.specs.HostOperations.{numbered as reply_numbered}
-use Rattle.beam.specs.declared.Lit.{Lit}
-use Rattle.beam.specs.declared.Lit.TheVariants.{Dark, Point}
 use Rattle.loan.specs.declared.Loan.{Loan}
 use Rattle.touches.specs.Touches.{Turn, Fails, Rests, Does}
 use Rattle.beam.specs.DataWords.{points}
 use Rattle.turns.specs.OneTurn.{turn}
-use Rattle.endings.specs.declared.Halt.{Halt}
-use Rattle.endings.specs.declared.Halt.TheVariants.{Goes, Ends}
 use Rattle.endings.specs.Endings.{halted}
 use Rattle.runs.specs.Runs.{Run, Go, follow, onward, run, CallLeft}
 use Rattle.calls.specs.Calls.{entered, call, numbered as answer_numbered}
 use Rattle.calls.proofs.Case.{call_case}
-use Rattle.unlisting.specs.declared.Reading.{Reading}
-use Rattle.unlisting.specs.declared.Reading.TheVariants.{Refused as RefusedReading, NotInForm, Done as Accepted}
+use Rattle.listing.specs.declared.Refusal.{Refusal as ListingRefusal}
+use Rattle.listing.specs.Listing.{numbered}
 use Rattle.unlisting.specs.Unlisting.{numbered as reading_numbered}
+use Rattle.endings.specs.declared.Ending.{Ending}
 
-pub reply_points : (q : Reply) → (reply_numbered q).points < 4294967296
-reply_points (Refused number) = omega arith
-reply_points (Done word) = omega arith
+pub reply_points : (q : Result ℕ Refusal) → (reply_numbered q).points < 4294967296
+reply_points (Err refusal) = omega arith
+reply_points (Ok word) = omega arith
 
-one : (lit : Lit) → length (points lit) ≤ 1
-one Dark = omega arith
-one (Point p) = omega arith
+one : (lit : Option ℕ) → length (points lit) ≤ 1
+one None = omega arith
+one (Some p) = omega arith
 
 onward_few : (k : ℕ) (go : Go) → ((room : ℕ) (r : Registers) (m : List ℕ) → length (go room r m).lit ≤ k) →
     (room : ℕ) (r : Registers) (m : List ℕ) (t : Turn) → length (onward go room r m t).lit ≤ suc k
@@ -40,9 +38,9 @@ onward_few k go ih room r m (Fails why) = omega arith
 onward_few k go ih room r m (Rests resting) = omega arith
 onward_few k go ih room r m (Does c) = rw length-append (omega (arith, one c.lit, by (halted c.stop)))
   where
-    by : (s : Halt) → length (follow go room m c s).lit ≤ k
-    by Goes = ih _ _ _
-    by (Ends ending) = omega arith
+    by : (s : Option Ending) → length (follow go room m c s).lit ≤ k
+    by None = ih _ _ _
+    by (Some ending) = omega arith
 
 run_few : (k : ℕ) (l : Loan) (room : ℕ) (r : Registers) (m : List ℕ) → length (run k l room r m).lit ≤ k
 unfolding run
@@ -60,8 +58,7 @@ pub answer_points : (budget : ℕ) (l : Loan) (r : Registers) (m ps : List ℕ) 
 answer_points k l r m ps =
     call_case k l r m ps Few (λ _ h _ _. omega (arith, leb-true k 65535 h, entered_few k l (length ps) r m)) (λ _. omega arith)
 
-pub reading_length : (q : Reading) → (reading_numbered q).length < 4294967296
-unfolding reading_numbered
-reading_length (RefusedReading number) = omega arith
-reading_length (NotInForm line) = omega arith
-reading_length Accepted = omega arith
+pub reading_length : (q : Result (Unit {0}) ListingRefusal) → (reading_numbered q).length < 4294967296
+unfolding reading_numbered numbered
+reading_length (Err refusal) = omega arith
+reading_length (Ok _) = omega arith

@@ -1,15 +1,14 @@
 -- What each export leaves of the lists that it is lent. The calls themselves are host's `operate`, calls' `call`, listing's `listed` and unlisting's
 -- `reading`, with their refusals. Assumes nothing.
-use Rattle.std.specs.Prelude.{ℕ, List, [], ◌∷◌, nat_le, slice_index}
+use Rattle.std.specs.Prelude.{ℕ, List, [], ◌∷◌, nat_le, slice_index, Result, Ok, Err}
 use Rattle.words.specs.Words.{pick}
 use Rattle.registers.specs.declared.Registers.{Registers}
 use Rattle.host.specs.declared.Operated.{Operated}
-use Rattle.host.specs.declared.Reply.{Reply}
-use Rattle.host.specs.declared.Reply.TheVariants.{Refused, Done}
+use Rattle.host.specs.declared.refusal.Refusal.{Refusal}
 use Rattle.host.specs.HostOperations.{operate, numbered as reply_numbered}
 use Rattle.loan.specs.declared.Loan.{Loan}
 use Rattle.runs.specs.declared.Answer.{Answer}
-use Rattle.runs.specs.declared.Answer.TheVariants.{Refused as RefusedRun, Ended}
+use Rattle.runs.specs.declared.Answer.TheVariants.{Refused, Ended}
 use Rattle.runs.specs.Runs.{CallLeft}
 use Rattle.calls.specs.Calls.{call, numbered as answer_numbered}
 use Rattle.answers.specs.declared.Numbers.{Numbers}
@@ -23,12 +22,12 @@ abbrev pub loan_of : List ℕ → Loan
 loan_of loan = record { filelow = slice_index loan 0; filehigh = slice_index loan 1; listlow = slice_index loan 2; listhigh = slice_index loan 3 }
 
 -- the row after a call: a refusal leaves it as it was
-abbrev pub row_after_operation : Reply → Registers → List ℕ → List ℕ
-row_after_operation (Refused number) r row = row
-row_after_operation (Done word) r row = row_of r
+abbrev pub row_after_operation : Result ℕ Refusal → Registers → List ℕ → List ℕ
+row_after_operation (Err refusal) r row = row
+row_after_operation (Ok word) r row = row_of r
 
 abbrev pub row_after_run : Answer → Registers → List ℕ → List ℕ
-row_after_run (RefusedRun number) r row = row
+row_after_run (Refused number) r row = row
 row_after_run (Ended ending beats points) r row = row_of r
 
 -- an answer's five numbers: ending or refusal, word, beats, points, address

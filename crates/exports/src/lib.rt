@@ -6,11 +6,10 @@
 ghost use Rattle.std.specs.Prelude.{◌≡◌, ◌<◌};
 ghost use Rattle.registers.specs.Registers.{fresh};
 ghost use Rattle.numbers.specs.Numbers.{row_of};
-ghost use Rattle.exports.specs.Exports.{loan_of, row_after_operation, row_after_run, told, operation_leaves, operates, run_leaves, runs};
+ghost use Rattle.exports.specs.Exports.{loan_of, told, operation_leaves, operates, run_leaves, runs};
 ghost use Rattle.exports.specs.Exports.{narrowed, told_listing, listing_leaves, lists, reading_leaves, reads};
 
 use answers::Numbers;
-use host::Reply;
 use listing::ListingNumbers;
 use loan::Loan;
 use registers::Registers;
@@ -31,37 +30,6 @@ fn loan_of(loan: [u16; 4]) -> Loan
         filehigh: loan[1],
         listlow: loan[2],
         listhigh: loan[3],
-    }
-}
-
-// Leaves the row of an operation's registers; a refusal leaves the row as it was.
-fn leave_operation(reply: Reply, r: Registers, row: &mut [u16; numbers::ROW])
-    ensures { row.new ≡ row_after_operation reply r row.old }
-{
-    match reply {
-        Reply::Refused(_) => {}
-        Reply::Done(_) => {
-            let b = r.base;
-            let m = r.motion;
-            *row = numbers::still_row(b);
-            motion_numbers::lay(m, row);
-        }
-    }
-}
-
-// The same of a run. What is written depends on the answer's case alone: a test of its number here would slow the whole run down, because the compiler
-// carries it into the loop.
-fn leave_run(answer: Answer, r: Registers, row: &mut [u16; numbers::ROW])
-    ensures { row.new ≡ row_after_run answer r row.old }
-{
-    match answer {
-        Answer::Refused(_) => {}
-        Answer::Ended(_, _, _) => {
-            let b = r.base;
-            let m = r.motion;
-            *row = numbers::still_row(b);
-            motion_numbers::lay(m, row);
-        }
     }
 }
 
@@ -88,21 +56,29 @@ fn told_listing(n: ListingNumbers) -> [u32; LISTING_ANSWER]
 }
 
 // A number in 16 bits. What does not fit becomes their largest, which is no end of a range either, and is refused like it.
+#[tactic(auto, using(crate::proofs::Narrow::narrowed_or))]
 fn narrow_end(number: u32) -> u16
     ensures { result ≡ narrowed 65535 number }
 {
-    if number <= 65535 {
-        number as u16
-    } else {
-        65535
-    }
+    u16::try_from(number).unwrap_or(u16::MAX)
 }
 
-// The same in 8 bits, of a state or a mode.
+// The same in 8 bits, of a state or a mode. One function of both widths would be no plainer: it would have to be told which number is a width's last.
+#[tactic(auto, using(crate::proofs::Narrow::narrowed_or))]
 fn narrow_start(number: u32) -> u8
     ensures { result ≡ narrowed 255 number }
 {
-    if number <= 255 { number as u8 } else { 255 }
+    u8::try_from(number).unwrap_or(u8::MAX)
+}
+
+// Writes the row of a run's registers, as `numbers::row_of` would make it. Not by that one, nor for other callers: one that several functions call is not
+// put in line, the registers then lie in memory through the whole run, and control words cost half as much again.
+#[tactic(auto, using(numbers::proofs::Laid::row_laid))]
+fn leave(r: Registers, row: &mut [u16; numbers::ROW])
+    ensures { row.new ≡ row_of r }
+{
+    *row = numbers::still_row(r.base);
+    motion_numbers::lay(r.motion, row);
 }
 
 // Writes the row of fresh registers.
@@ -123,10 +99,10 @@ pub fn eveglome_operate(
     ensures { operation_leaves registers.new answer.new ≡ operates registers.old operation operand }
 {
     let operated = host::operate(numbers::registers_of(*registers), operation, operand);
-    let reply = operated.reply;
-    let after = operated.registers;
-    *answer = told(host::numbered(reply));
-    leave_operation(reply, after, registers);
+    *answer = told(host::numbered(operated.reply));
+    if operated.reply.is_ok() {
+        *registers = numbers::row_of(operated.registers);
+    }
 }
 
 // Runs the display. A refused run leaves registers, memory and points as they were.
@@ -148,11 +124,12 @@ pub fn eveglome_run(
         points,
         budget,
     );
-    let ended = ran.answer;
-    let after = ran.registers;
     // Before the row: behind it, the address would be carried through the whole run.
-    *answer = told(calls::numbered(ended));
-    leave_run(ended, after, registers);
+    *answer = told(calls::numbered(ran.answer));
+    // The answer's case alone decides: a test of its number would slow the whole run down, because the compiler carries it into the loop.
+    if let Answer::Ended(_, _, _) = ran.answer {
+        leave(ran.registers, registers);
+    }
 }
 
 // Lists the words of a range from a state and a mode on. A refused call leaves the text list as it was.

@@ -5,26 +5,22 @@ use mathlib.Core.Bool.{Bool, true, false}
 use mathlib.Core.List.{List, ◌++◌}
 use native.Mathlib.Decide.{ℕ_discrete, dec_lt}
 use native.Mathlib.Omega.{arith}
-use Rattle.std.specs.Prelude.{nat_le}
+use Rattle.std.specs.Prelude.{nat_le, Option, None, Some, Result, Ok, Err}
 use lib.ListN.{length, get_or, set, length-set}
 use lib.Seq.{get_or-set_same, get_or-set_other, set_out}
 use Rattle.words.specs.Words.{pick}
 use Rattle.addresses.specs.declared.DisplayAddress.{DisplayAddress}
 use Rattle.registers.specs.declared.Registers.{Registers}
+use Rattle.touches.specs.declared.Why.{Why}
 use Rattle.loan.specs.declared.Loan.{Loan}
 use Rattle.loan.specs.Loan.{may_fetch}
-use Rattle.touches.specs.declared.Got.{Got}
-use Rattle.touches.specs.declared.Got.TheVariants.{Word, Not}
-use Rattle.touches.specs.declared.Stores.{Stores}
-use Rattle.touches.specs.declared.Stores.TheVariants.{Nowhere, Two}
+use Rattle.touches.specs.declared.Push.{Push}
 use Rattle.touches.specs.declared.Why.TheVariants.{Fetch, Wide}
 use Rattle.touches.specs.Touches.{Beat, fetch, act, rest, Turn, Fails, Rests, Does, fetched, on_got, walk, store}
 use Rattle.beam.specs.DataWords.{points}
 use Rattle.turns.specs.OneTurn.{beat, turn}
 use Rattle.endings.specs.declared.Ending.{Ending}
 use Rattle.endings.specs.declared.Ending.TheVariants.{NotRunning, BudgetSpent, Failed}
-use Rattle.endings.specs.declared.Halt.{Halt}
-use Rattle.endings.specs.declared.Halt.TheVariants.{Goes, Ends}
 use Rattle.endings.specs.Endings.{rested, rest_ending, halted}
 use Rattle.runs.specs.Runs.{Run, ended, made, Go, follow, onward, run}
 use Rattle.calls.specs.Calls.{entered}
@@ -36,8 +32,8 @@ module _ (l : Loan) (m n : List ℕ) (h : Agree l m n) where
   fetched_agrees a = by (may_fetch l a) (h.1 a)
     where
       by : (t : Bool) → (t ≡ true → get_or m a.0 0 ≡ get_or n a.0 0) →
-          pick t (pick (nat_le (get_or m a.0 0) 4095) (Word (get_or m a.0 0)) (Not (Wide a))) (Not (Fetch a))
-          ≡ pick t (pick (nat_le (get_or n a.0 0) 4095) (Word (get_or n a.0 0)) (Not (Wide a))) (Not (Fetch a))
+          pick t (pick (nat_le (get_or m a.0 0) 4095) (Ok (get_or m a.0 0)) (Err (Wide a))) (Err (Fetch a))
+          ≡ pick t (pick (nat_le (get_or n a.0 0) 4095) (Ok (get_or n a.0 0)) (Err (Wide a))) (Err (Fetch a))
       by true e = rw (e refl)
       by false e = refl
 
@@ -45,9 +41,9 @@ module _ (l : Loan) (m n : List ℕ) (h : Agree l m n) where
   unfolding walk
   walk_agrees (fetch a k) = rw (fetched_agrees a) (by (λ w. walk_agrees (k w)) (fetched l n a))
     where
-      by : ((w : ℕ) → walk l m (k w) ≡ walk l n (k w)) → (g : Got) → on_got (λ w. walk l m (k w)) g ≡ on_got (λ w. walk l n (k w)) g
-      by ih (Word w) = ih w
-      by ih (Not why) = refl
+      by : ((w : ℕ) → walk l m (k w) ≡ walk l n (k w)) → (g : Result ℕ Why) → on_got (λ w. walk l m (k w)) g ≡ on_got (λ w. walk l n (k w)) g
+      by ih (Ok w) = ih w
+      by ih (Err why) = refl
   walk_agrees (act c) = refl
   walk_agrees (rest resting) = refl
 
@@ -64,10 +60,10 @@ module _ (l : Loan) (m n : List ℕ) (h : Agree l m n) where
           let le' : length n ≤ i = omega (arith, h.0) in
           rw (set_out m i v le, set_out n i v le') q
 
-store_agrees : (l : Loan) (m n : List ℕ) → Agree l m n → (s : Stores) → Agree l (store s m) (store s n)
-store_agrees l m n h Nowhere = h
-store_agrees l m n h (Two at word next second) =
-    set_agrees l (set m at.0 word) (set n at.0 word) (set_agrees l m n h at.0 word) next.0 second
+store_agrees : (l : Loan) (m n : List ℕ) → Agree l m n → (s : Option Push) → Agree l (store s m) (store s n)
+store_agrees l m n h None = h
+store_agrees l m n h (Some push) =
+    set_agrees l (set m push.at.0 push.word) (set n push.at.0 push.word) (set_agrees l m n h push.at.0 push.word) push.next.0 push.second
 
 made_agrees : {l : Loan} {f g : Run} (ps : List ℕ) → Same l f g → Same l (made ps f) (made ps g)
 made_agrees ps s =
@@ -90,11 +86,11 @@ module _ (l : Loan) where
   onward_agrees go ih room r m n h (Rests resting) = ended_agrees (rested r resting) (rest_ending resting) h
   onward_agrees go ih room r m n h (Does c) = made_agrees (points c.lit) (by (halted c.stop))
     where
-      by : (s : Halt) → Same l (follow go room m c s) (follow go room n c s)
-      by Goes =
+      by : (s : Option Ending) → Same l (follow go room m c s) (follow go room n c s)
+      by None =
           ih (room - length (points c.lit)) c.registers (store c.stores m) (store c.stores n)
           (store_agrees l m n h c.stores)
-      by (Ends ending) = ended_agrees c.registers ending (store_agrees l m n h c.stores)
+      by (Some ending) = ended_agrees c.registers ending (store_agrees l m n h c.stores)
 
   run_agrees : (k room : ℕ) (r : Registers) (m n : List ℕ) → Agree l m n → Same l (run k l room r m) (run k l room r n)
   unfolding run turn

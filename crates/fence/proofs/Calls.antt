@@ -4,7 +4,7 @@ use mathlib.Core.Path.{◌≡◌, refl, sym, ap, ◌∙◌}
 use mathlib.Core.Bool.{Bool, true, false}
 use mathlib.Core.List.{List}
 use native.Mathlib.Omega.{arith}
-use Rattle.std.specs.Prelude.{nat_eq, nat_le}
+use Rattle.std.specs.Prelude.{nat_eq, nat_le, Option, None, Some}
 use lib.ListN.{length}
 use lib.Seq.{take_at}
 use borrow.Author.Tests.{leb-true, le-leb}
@@ -20,8 +20,6 @@ use Rattle.beam.specs.DataWords.{points}
 use Rattle.turns.specs.OneTurn.{turn}
 use Rattle.endings.specs.declared.Ending.{Ending}
 use Rattle.runs.specs.declared.Answer.TheVariants.{Refused, Ended}
-use Rattle.endings.specs.declared.Halt.{Halt}
-use Rattle.endings.specs.declared.Halt.TheVariants.{Goes, Ends}
 use Rattle.endings.specs.Endings.{halted}
 use Rattle.runs.specs.Runs.{Run, Go, follow, onward, run, CallLeft, leaves, left}
 use Rattle.calls.specs.Calls.{entered, refused_run, call, numbered}
@@ -85,9 +83,9 @@ module _ (l : Loan) where
   onward_within k go ih room r m (Rests resting) = omega arith
   onward_within k go ih room r m (Does c) = let h = by (halted c.stop) in omega arith
     where
-      by : (s : Halt) → (follow go room m c s).beats ≤ k
-      by Goes = ih (room - length (points c.lit)) c.registers (store c.stores m)
-      by (Ends ending) = omega arith
+      by : (s : Option Ending) → (follow go room m c s).beats ≤ k
+      by None = ih (room - length (points c.lit)) c.registers (store c.stores m)
+      by (Some ending) = omega arith
 
   run_within : (k room : ℕ) (r : Registers) (m : List ℕ) → (run k l room r m).beats ≤ k
   unfolding run

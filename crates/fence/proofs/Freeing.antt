@@ -6,7 +6,7 @@ use mathlib.Core.Bool.{Bool, true, false}
 use mathlib.Core.List.{List, ◌++◌}
 use native.Mathlib.Nat.{sub-zero}
 use native.Mathlib.Omega.{arith}
-use Rattle.std.specs.Prelude.{nat_le}
+use Rattle.std.specs.Prelude.{nat_le, Option, None, Some, Ok, Err}
 use lib.ListN.{length, get_or, length-append}
 use Rattle.words.specs.Words.{pick}
 use Rattle.registers.specs.declared.Registers.{Registers}
@@ -15,21 +15,17 @@ use Rattle.loan.specs.Loan.{may_fetch, may_store, all}
 use Rattle.loan.specs.Fair.{Fair}
 use Rattle.loan.proofs.Touches.{may_fetch_all, may_store_all}
 use Rattle.beam.specs.declared.Stop.{Stop}
-use Rattle.beam.specs.declared.Stop.TheVariants.{None, Internal, Edge, Unused}
+use Rattle.beam.specs.declared.Stop.TheVariants.{Internal, Edge, Unused}
 use Rattle.touches.specs.declared.Act.{Act}
-use Rattle.touches.specs.declared.Got.TheVariants.{Word, Not}
 use Rattle.touches.specs.declared.Resting.{Resting}
 use Rattle.touches.specs.declared.Resting.TheVariants.{External, Unusable}
-use Rattle.touches.specs.declared.Stores.{Stores}
-use Rattle.touches.specs.declared.Stores.TheVariants.{Nowhere, Two}
+use Rattle.touches.specs.declared.Push.{Push}
 use Rattle.touches.specs.declared.Why.TheVariants.{Fetch, Store, Wide, Full}
 use Rattle.touches.specs.Touches.{Beat, fetch, act, rest, Turn, Fails, Rests, Does, fetched, on_got, allowed, walk, store}
 use Rattle.beam.specs.DataWords.{points}
 use Rattle.turns.specs.OneTurn.{beat, room_for, turn}
 use Rattle.endings.specs.declared.Ending.{Ending}
 use Rattle.endings.specs.declared.Ending.TheVariants.{NotRunning, InternalStop, EdgeStop, UnusableMode}
-use Rattle.endings.specs.declared.Halt.{Halt}
-use Rattle.endings.specs.declared.Halt.TheVariants.{Goes, Ends}
 use Rattle.endings.specs.Endings.{rest_ending, halted, why_numbers, ending_numbers}
 use Rattle.runs.specs.Runs.{Run, ended, made, Go, follow, onward, run}
 use Rattle.calls.specs.Calls.{entered}
@@ -45,12 +41,12 @@ Freed l (Rests resting) u = Rests resting ≡ u
 Freed l (Does c) u = Does c ≡ u
 
 -- a beat that stops the display, and a rest, end no run at the fence
-halted_free : (s : Stop) (ending : Ending) → halted s ≡ Ends ending → fenced ending ≡ false
+halted_free : (s : Option Stop) (ending : Ending) → halted s ≡ Some ending → fenced ending ≡ false
 unfolding halted fenced ending_numbers
 halted_free None ending e = let z : ◌≡◌ {A = ℕ} 0 1 = cc in absurd (omega arith)
-halted_free Internal ending e = let q : InternalStop ≡ ending = cc in rw (← q)
-halted_free Edge ending e = let q : EdgeStop ≡ ending = cc in rw (← q)
-halted_free Unused ending e = let q : UnusableMode ≡ ending = cc in rw (← q)
+halted_free (Some Internal) ending e = let q : InternalStop ≡ ending = cc in rw (← q)
+halted_free (Some Edge) ending e = let q : EdgeStop ≡ ending = cc in rw (← q)
+halted_free (Some Unused) ending e = let q : UnusableMode ≡ ending = cc in rw (← q)
 
 rested_free : (resting : Resting) → fenced (rest_ending resting) ≡ false
 unfolding rest_ending fenced ending_numbers
@@ -66,15 +62,15 @@ abbrev Stopped : Loan → ℕ → Run → Run → Type 0
 Stopped l room g other = (other ≡ cut g) × AtFence l (room - length g.lit) g.registers g.memory g.ending
 
 module _ (l : Loan) (f : Fair l) where
-  allowed_freed : (c : Act) (s : Stores) → Freed l (allowed l c s) (allowed all c s)
+  allowed_freed : (c : Act) (s : Option Push) → Freed l (allowed l c s) (allowed all c s)
   unfolding allowed pick
-  allowed_freed c Nowhere = refl
-  allowed_freed c (Two at word next second) = by (may_store l at) refl (may_store l next) refl
+  allowed_freed c None = refl
+  allowed_freed c (Some push) = by (may_store l push.at) refl (may_store l push.next) refl
     where
-      by : (t : Bool) → may_store l at ≡ t → (u : Bool) → may_store l next ≡ u →
-          Freed l (pick t (pick u (Does c) (Fails (Store next))) (Fails (Store at)))
-          (pick (may_store all at) (pick (may_store all next) (Does c) (Fails (Store next))) (Fails (Store at)))
-      by true e true e' = rw (may_store_all l f at e, may_store_all l f next e')
+      by : (t : Bool) → may_store l push.at ≡ t → (u : Bool) → may_store l push.next ≡ u →
+          Freed l (pick t (pick u (Does c) (Fails (Store push.next))) (Fails (Store push.at)))
+          (pick (may_store all push.at) (pick (may_store all push.next) (Does c) (Fails (Store push.next))) (Fails (Store push.at)))
+      by true e true e' = rw (may_store_all l f push.at e, may_store_all l f push.next e')
       by true e false e' = e'
       by false e u e' = e
 
@@ -83,8 +79,8 @@ module _ (l : Loan) (f : Fair l) where
   walk_freed m (fetch a k) = by (may_fetch l a) refl (nat_le (get_or m a.0 0) 4095) (walk_freed m (k (get_or m a.0 0)))
     where
       by : (t : Bool) → may_fetch l a ≡ t → (u : Bool) → Freed l (walk l m (k (get_or m a.0 0))) (walk all m (k (get_or m a.0 0))) →
-          Freed l (on_got (λ w. walk l m (k w)) (pick t (pick u (Word (get_or m a.0 0)) (Not (Wide a))) (Not (Fetch a))))
-          (on_got (λ w. walk all m (k w)) (pick (may_fetch all a) (pick u (Word (get_or m a.0 0)) (Not (Wide a))) (Not (Fetch a))))
+          Freed l (on_got (λ w. walk l m (k w)) (pick t (pick u (Ok (get_or m a.0 0)) (Err (Wide a))) (Err (Fetch a))))
+          (on_got (λ w. walk all m (k w)) (pick (may_fetch all a) (pick u (Ok (get_or m a.0 0)) (Err (Wide a))) (Err (Fetch a))))
       by true e true ih = rw (may_fetch_all l f a e) ih
       by true e false ih = rw (may_fetch_all l f a e)
       by false e u ih = e
@@ -119,9 +115,9 @@ module _ (l : Loan) (f : Fair l) where
   onward_all go go' ih room r m (Rests resting) u e h = rw (← e)
   onward_all go go' ih room r m (Does c) u e h = rw (← e) (ap (made (points c.lit)) (by (halted c.stop) h))
     where
-      by : (s : Halt) → fenced (follow go room m c s).ending ≡ false → follow go room m c s ≡ follow go' room m c s
-      by Goes h = ih (room - length (points c.lit)) c.registers (store c.stores m) h
-      by (Ends ending) h = refl
+      by : (s : Option Ending) → fenced (follow go room m c s).ending ≡ false → follow go room m c s ≡ follow go' room m c s
+      by None h = ih (room - length (points c.lit)) c.registers (store c.stores m) h
+      by (Some ending) h = refl
 
   run_all : (k room : ℕ) (r : Registers) (m : List ℕ) → fenced (run k l room r m).ending ≡ false → run k l room r m ≡ run k all room r m
   unfolding run
@@ -155,10 +151,10 @@ module _ (l : Loan) (f : Fair l) where
   onward_stopped k ih room r m (Rests resting) q o e = never _ e (rested_free resting)
   onward_stopped k ih room r m (Does c) q o e = by (halted c.stop) refl e
     where
-      by : (s : Halt) → halted c.stop ≡ s → fenced (follow (run k l) room m c s).ending ≡ true →
+      by : (s : Option Ending) → halted c.stop ≡ s → fenced (follow (run k l) room m c s).ending ≡ true →
           Stopped l room (made (points c.lit) (follow (run k l) room m c s))
           (run (suc (follow (run k l) room m c s).beats) all room r m)
-      by Goes p e =
+      by None p e =
           let i = ih (room - length (points c.lit)) c.registers (store c.stores m) e in
           let s : room - length (points c.lit ++ (run k l (room - length (points c.lit)) c.registers (store c.stores m)).lit)
           ≡ room - length (points c.lit) - length (run k l (room - length (points c.lit)) c.registers (store c.stores m)).lit =
@@ -170,7 +166,7 @@ module _ (l : Loan) (f : Fair l) where
                 ∙ i.0)),
             rw s i.1,
           )
-      by (Ends ending) p e = never _ e (halted_free c.stop ending p)
+      by (Some ending) p e = never _ e (halted_free c.stop ending p)
 
   run_stopped : (k room : ℕ) (r : Registers) (m : List ℕ) → fenced (run k l room r m).ending ≡ true →
       Stopped l room (run k l room r m) (run (run k l room r m).beats all room r m)

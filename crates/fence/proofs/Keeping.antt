@@ -4,34 +4,31 @@ use Prim.Native.Nat.{ℕ, zero, suc, ◌-◌}
 use mathlib.Core.Path.{◌≡◌, refl, sym, ap, ◌∙◌}
 use mathlib.Core.Bool.{true, true≢false}
 use mathlib.Core.List.{List}
-use Rattle.std.specs.Prelude.{nat_le}
+use Rattle.std.specs.Prelude.{nat_le, Option, None, Some, Result, Ok, Err}
 use lib.ListN.{length, set, length-set}
 use lib.Seq.{get_or-set_other}
 use Rattle.words.proofs.Laws.{pick_case}
 use Rattle.addresses.specs.declared.DisplayAddress.{DisplayAddress}
 use Rattle.addresses.specs.Addresses.{address}
 use Rattle.registers.specs.declared.Registers.{Registers}
+use Rattle.touches.specs.declared.Why.{Why}
 use Rattle.loan.specs.declared.Loan.{Loan}
 use Rattle.loan.specs.Loan.{may_store}
 use Rattle.touches.specs.declared.Act.{Act}
-use Rattle.touches.specs.declared.Got.{Got}
-use Rattle.touches.specs.declared.Got.TheVariants.{Word, Not}
-use Rattle.touches.specs.declared.Stores.{Stores}
-use Rattle.touches.specs.declared.Stores.TheVariants.{Nowhere, Two}
+use Rattle.touches.specs.declared.Push.{Push}
 use Rattle.touches.specs.Touches.{Beat, fetch, act, rest, Turn, Fails, Rests, Does, fetched, on_got, allowed, walk, store}
 use Rattle.beam.specs.DataWords.{points}
 use Rattle.turns.specs.OneTurn.{beat, room_for, turn}
-use Rattle.endings.specs.declared.Halt.{Halt}
-use Rattle.endings.specs.declared.Halt.TheVariants.{Goes, Ends}
 use Rattle.endings.specs.Endings.{halted}
 use Rattle.runs.specs.Runs.{Run, Go, follow, onward, run}
 use Rattle.calls.specs.Calls.{entered}
 use Rattle.fence.specs.Demand3.{Kept}
+use Rattle.endings.specs.declared.Ending.{Ending}
 
 -- the loan allows what is stored
-abbrev Lent : Loan → Stores → Type 0
-Lent l Nowhere = Unit {0}
-Lent l (Two at word next second) = (may_store l at ≡ true) × (may_store l next ≡ true)
+abbrev Lent : Loan → Option Push → Type 0
+Lent l None = Unit {0}
+Lent l (Some push) = (may_store l push.at ≡ true) × (may_store l push.next ≡ true)
 
 abbrev LentTurn : Loan → Turn → Type 0
 LentTurn l (Fails why) = Unit {0}
@@ -39,19 +36,19 @@ LentTurn l (Rests resting) = Unit {0}
 LentTurn l (Does c) = Lent l c.stores
 
 module _ (l : Loan) where
-  allowed_lent : (c : Act) (s : Stores) → (Lent l s → Lent l c.stores) → LentTurn l (allowed l c s)
+  allowed_lent : (c : Act) (s : Option Push) → (Lent l s → Lent l c.stores) → LentTurn l (allowed l c s)
   unfolding allowed
-  allowed_lent c Nowhere h = h tt
-  allowed_lent c (Two at word next second) h =
-      pick_case (LentTurn l) (may_store l at) (λ e. pick_case (LentTurn l) (may_store l next) (λ e'. h (e, e')) (λ _. tt)) (λ _. tt)
+  allowed_lent c None h = h tt
+  allowed_lent c (Some push) h =
+      pick_case (LentTurn l) (may_store l push.at) (λ e. pick_case (LentTurn l) (may_store l push.next) (λ e'. h (e, e')) (λ _. tt)) (λ _. tt)
 
   walk_lent : (m : List ℕ) (b : Beat) → LentTurn l (walk l m b)
   unfolding walk
   walk_lent m (fetch a k) = by (λ w. walk_lent m (k w)) (fetched l m a)
     where
-      by : ((w : ℕ) → LentTurn l (walk l m (k w))) → (g : Got) → LentTurn l (on_got (λ w. walk l m (k w)) g)
-      by ih (Word w) = ih w
-      by ih (Not why) = tt
+      by : ((w : ℕ) → LentTurn l (walk l m (k w))) → (g : Result ℕ Why) → LentTurn l (on_got (λ w. walk l m (k w)) g)
+      by ih (Ok w) = ih w
+      by ih (Err why) = tt
   walk_lent m (act c) = allowed_lent c c.stores (λ i. i)
   walk_lent m (rest resting) = tt
 
@@ -75,10 +72,10 @@ module _ (l : Loan) where
         words = λ a e. get_or-set_other m i.0 a.0 v 0 (λ p. true≢false (sym h ∙ ap (λ (n : ℕ). may_store l (address n)) (sym p) ∙ e));
       }
 
-  store_keeps : (s : Stores) (m : List ℕ) → Lent l s → Kept l m (store s m)
-  store_keeps Nowhere m h = same_keeps m
-  store_keeps (Two at word next second) m h =
-      then_keeps (set_keeps m at word h.0) (set_keeps (set m at.0 word) next second h.1)
+  store_keeps : (s : Option Push) (m : List ℕ) → Lent l s → Kept l m (store s m)
+  store_keeps None m h = same_keeps m
+  store_keeps (Some push) m h =
+      then_keeps (set_keeps m push.at push.word h.0) (set_keeps (set m push.at.0 push.word) push.next push.second h.1)
 
   onward_keeps : (go : Go) → ((room : ℕ) (r : Registers) (m : List ℕ) → Kept l m (go room r m).memory) →
       (room : ℕ) (r : Registers) (m : List ℕ) (t : Turn) → LentTurn l t → Kept l m (onward go room r m t).memory
@@ -86,9 +83,9 @@ module _ (l : Loan) where
   onward_keeps go ih room r m (Rests resting) h = same_keeps m
   onward_keeps go ih room r m (Does c) h = then_keeps (store_keeps c.stores m h) (by (halted c.stop))
     where
-      by : (s : Halt) → Kept l (store c.stores m) (follow go room m c s).memory
-      by Goes = ih (room - length (points c.lit)) c.registers (store c.stores m)
-      by (Ends ending) = same_keeps (store c.stores m)
+      by : (s : Option Ending) → Kept l (store c.stores m) (follow go room m c s).memory
+      by None = ih (room - length (points c.lit)) c.registers (store c.stores m)
+      by (Some ending) = same_keeps (store c.stores m)
 
   run_keeps : (k room : ℕ) (r : Registers) (m : List ℕ) → Kept l m (run k l room r m).memory
   unfolding run turn

@@ -12,11 +12,12 @@ pub fn pen_lit(b: Base) -> Base
     ensures { result ≡ pen_lit b }
 {
     let found = b.running & b.pen;
-    let mut next = b;
-    next.sense = true;
-    next.penflag = b.penflag | found;
-    next.running = b.running & !found;
-    next
+    Base {
+        sense: true,
+        penflag: b.penflag | found,
+        running: b.running & !found,
+        ..b
+    }
 }
 
 // 8: press a button, 0 to 11.
@@ -25,11 +26,12 @@ pub fn pressed(b: Base, button: u16) -> Base
     ensures { result ≡ pressed b button }
 {
     let buttons = b.buttons ^ words::weight(button);
-    let mut next = b;
-    next.buttons = buttons;
-    next.hit1 = b.hit1 | (button < 6);
-    next.hit2 = b.hit2 | (6 <= button);
-    next
+    Base {
+        buttons,
+        hit1: b.hit1 | (button < 6),
+        hit2: b.hit2 | (6 <= button),
+        ..b
+    }
 }
 
 // 9: clear the buttons of group 0 or 1.
@@ -37,36 +39,31 @@ pub fn pressed(b: Base, button: u16) -> Base
 pub fn group_cleared(b: Base, group: u16) -> Base
     ensures { result ≡ group_cleared b group }
 {
-    let buttons = words::pick_u16(group == 0, b.buttons % 64, b.buttons / 64 * 64);
-    let mut next = b;
-    next.buttons = buttons;
-    next
+    let buttons = words::pick(group == 0, b.buttons % 64, b.buttons / 64 * 64);
+    Base { buttons, ..b }
 }
 
 // 10 and 11: the manual interrupt on and off.
 pub fn interrupted(b: Base, manual: bool) -> Base
     ensures { result ≡ interrupted b manual }
 {
-    let mut next = b;
-    next.manual = manual;
-    next
+    Base { manual, ..b }
 }
 
 // 12: idle on.
 pub fn idled(b: Base) -> Base
     ensures { result ≡ idled b }
 {
-    let mut next = b;
-    next.idle = true;
-    next
+    Base { idle: true, ..b }
 }
 
 // 24, after its word is read: both hit flags off.
 pub fn hits_read(b: Base) -> Base
     ensures { result ≡ hits_read b }
 {
-    let mut next = b;
-    next.hit1 = false;
-    next.hit2 = false;
-    next
+    Base {
+        hit1: false,
+        hit2: false,
+        ..b
+    }
 }

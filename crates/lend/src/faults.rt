@@ -1,42 +1,44 @@
 // What cannot be taken, told on standard error with what to write instead.
-use arguments::Waits;
+use arguments::Awaited;
 use std::io;
 use std::io::Print;
 
-// The option that waits, and the value that it wants.
-fn tell_wanted(err: &impl Print, waits: Waits) -> io::Result<()> {
-    match waits {
-        Waits::Nothing => console::write(err, b"there is no such option"),
-        Waits::FileRange => console::write(
+// The value that an option wants.
+fn tell_wanted(err: &impl Print, awaited: Awaited) -> io::Result<()> {
+    match awaited {
+        Awaited::FileRange => console::write(
             err,
             b"--file wants a range LOW-HIGH in octal, as --file 01000-01005, which lends 01000 to 01004; HIGH is at most 100000 and not below LOW",
         ),
-        Waits::ListRange => console::write(
+        Awaited::ListRange => console::write(
             err,
             b"--list wants a range LOW-HIGH in octal, as --list 07000-07100, which lends 07000 to 07077; HIGH is at most 100000 and not below LOW",
         ),
-        Waits::Start => console::write(
+        Awaited::Start => console::write(
             err,
             b"--start wants an address in octal, 0 to 77777, as --start 00200",
         ),
-        Waits::Pointer => console::write(
+        Awaited::Pointer => console::write(
             err,
             b"--pointer wants an address in octal, 0 to 7777, as --pointer 7000",
         ),
-        Waits::Budget => console::write(
+        Awaited::Budget => console::write(
             err,
             b"--budget wants a number of beats, 0 to 65535, as --budget 100",
         ),
-        Waits::Room => console::write(
+        Awaited::Room => console::write(
             err,
             b"--room wants a number of points, 0 to 65536, as --room 1024",
         ),
     }
 }
 
-// An argument that cannot be taken where this was waited for.
-pub(crate) fn tell(err: &impl Print, waits: Waits, argument: &[u8]) -> io::Result<()> {
-    tell_wanted(err, waits)?;
+// An argument that cannot be taken where this was waited for, or nothing.
+pub(crate) fn tell(err: &impl Print, awaited: Option<Awaited>, argument: &[u8]) -> io::Result<()> {
+    match awaited {
+        Some(awaited) => tell_wanted(err, awaited)?,
+        None => console::write(err, b"there is no such option")?,
+    }
     console::write(err, b": '")?;
     console::write(err, argument)?;
     console::write(
@@ -46,8 +48,8 @@ pub(crate) fn tell(err: &impl Print, waits: Waits, argument: &[u8]) -> io::Resul
 }
 
 // An option whose value does not come.
-pub(crate) fn tell_missing(err: &impl Print, waits: Waits) -> io::Result<()> {
-    tell_wanted(err, waits)?;
+pub(crate) fn tell_missing(err: &impl Print, awaited: Awaited) -> io::Result<()> {
+    tell_wanted(err, awaited)?;
     console::write(err, b": nothing comes behind it.\n")
 }
 

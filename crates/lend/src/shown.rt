@@ -1,110 +1,109 @@
 // What a run is shown by: its points, the registers and the words that it left.
-use crate::{Memory, emit};
+use crate::Memory;
 use registers::Registers;
 use std::io;
 use std::io::Print;
+use text::Text;
 
 // Writes a line for each of the first `count` points.
 pub(crate) fn write_points(out: &impl Print, points: &[u64], count: usize) -> io::Result<()> {
-    let mut i = 0;
-    while i < count && i < points.len() {
-        write_point(out, points[i])?;
-        i += 1;
+    for point in points.iter().take(count) {
+        write_point(out, *point)?;
     }
     Ok(())
 }
 
 fn write_point(out: &impl Print, point: u64) -> io::Result<()> {
     let mut line = [0u8; 64];
-    let length = printout::put_point(point, &mut line, 0);
-    emit(out, &line, length)
+    let mut text = Text::new(&mut line);
+    printout::put_point(point, &mut text);
+    console::write(out, text.as_bytes())
 }
 
-// What ends a name in a list of names says how its number is written: = in decimal, # in octal.
-fn is_end(byte: u8) -> bool {
-    (byte == b'=') | (byte == b'#')
+// The name of a number, and how that is written.
+#[derive(Clone, Copy)]
+enum Name {
+    Decimal(&'static [u8]),
+    Octal(&'static [u8]),
 }
 
-fn put_value(end: u8, value: u16, line: &mut [u8], place: usize) -> usize {
-    if end == b'#' {
-        text::put_address(value, line, place)
-    } else {
-        text::put_decimal(value as u32, line, place)
-    }
-}
+use Name::{Decimal, Octal};
 
-// One byte of a list of names; the one that ends a name brings its number and writes the line.
-fn put_name(
-    out: &impl Print,
-    byte: u8,
-    value: u16,
-    line: &mut [u8; 64],
-    place: usize,
-) -> io::Result<usize> {
-    if is_end(byte) {
-        let named = text::put(b' ', line, place);
-        let valued = put_value(byte, value, line, named);
-        let ended = text::put(b'\n', line, valued);
-        emit(out, line, ended)?;
-        Ok(0)
-    } else {
-        Ok(text::put(byte, line, place))
-    }
-}
-
-// Writes a line for each name, with the numbers of a row from `first` on.
-fn write_names(out: &impl Print, names: &[u8], row: &[u16], first: usize) -> io::Result<()> {
+// Writes a line for a name and its number.
+fn write_name(out: &impl Print, name: Name, value: u16) -> io::Result<()> {
     let mut line = [0u8; 64];
-    let mut filled = 0;
-    let mut place = first;
-    let mut i = 0;
-    while i < names.len() && place < row.len() {
-        filled = put_name(out, names[i], row[place], &mut line, filled)?;
-        if is_end(names[i]) {
-            // Never 64 or more; the remainder spares every caller to say so.
-            place = place % 64 + 1;
+    let mut text = Text::new(&mut line);
+    match name {
+        Decimal(name) => {
+            text.put_all(name);
+            text.put(b' ');
+            text.put_decimal(value as u32);
         }
-        i += 1;
+        Octal(name) => {
+            text.put_all(name);
+            text.put(b' ');
+            text.put_address(value);
+        }
+    }
+    text.put(b'\n');
+    console::write(out, text.as_bytes())
+}
+
+// Writes a line for each name, with the numbers of a row.
+fn write_names(out: &impl Print, names: &[Name], row: &[u16]) -> io::Result<()> {
+    for (name, value) in names.iter().zip(row) {
+        write_name(out, *name, *value)?;
     }
     Ok(())
 }
 
-// Writes the numbers of a line, which stand behind a place of a row.
-fn write_line(out: &impl Print, row: &[u16], before: usize) -> io::Result<()> {
+// Writes the numbers of a line, which begin a row.
+fn write_line(out: &impl Print, row: &[u16]) -> io::Result<()> {
     write_names(
         out,
-        b"line, minus y=line, minus x=line, magnitude of y=line, magnitude of x=line, moves=line, moves made=line, lit=line, escape=line, last word#",
+        &[
+            Decimal(b"line, minus y"),
+            Decimal(b"line, minus x"),
+            Decimal(b"line, magnitude of y"),
+            Decimal(b"line, magnitude of x"),
+            Decimal(b"line, moves"),
+            Decimal(b"line, moves made"),
+            Decimal(b"line, lit"),
+            Decimal(b"line, escape"),
+            Octal(b"line, last word"),
+        ],
         row,
-        before % 64 + 1,
     )
 }
 
-fn write_bytes(out: &impl Print, row: &[u16], before: usize) -> io::Result<()> {
+fn write_bytes(out: &impl Print, row: &[u16]) -> io::Result<()> {
     write_names(
         out,
-        b"bytes, word#bytes, right byte=bytes, moves left=bytes, last word#",
+        &[
+            Octal(b"bytes, word"),
+            Decimal(b"bytes, right byte"),
+            Decimal(b"bytes, moves left"),
+            Octal(b"bytes, last word"),
+        ],
         row,
-        before % 64 + 1,
     )
 }
 
 // Writes what an unfinished character waits for, by its stage.
 fn write_stage(out: &impl Print, row: &[u16], stage: u16) -> io::Result<()> {
-    if stage == 1 {
-        write_names(
+    match stage {
+        1 => write_names(
             out,
-            b"routine, short vectors=routine, next word#",
+            &[
+                Decimal(b"routine, short vectors"),
+                Octal(b"routine, next word"),
+            ],
             row,
-            numbers::STAGE + 1,
-        )?;
+        ),
+        2 => write_bytes(out, row),
+        3 => write_line(out, row),
+        _ => Ok(()),
     }
-    if stage == 2 {
-        write_bytes(out, row, numbers::STAGE)?;
-    }
-    if stage == 3 {
-        write_line(out, row, numbers::STAGE)?;
-    }
-    Ok(())
 }
 
 // Writes every register by its name, and the motion that is under way.
@@ -112,50 +111,82 @@ pub(crate) fn write_registers(out: &impl Print, r: Registers) -> io::Result<()> 
     let row = numbers::row_of(r);
     write_names(
         out,
-        b"display address#pushdown pointer#x=y=data state=mode=scale=intensity=pen enable=pen hold=pen sense=blink=idle=buttons#hit flag of bank 1=hit flag of bank 2=internal stop flag=external stop flag=vertical edge flag=horizontal edge flag=pen flag=manual interrupt flag=initial conditions#running=stop request=word held=held word#case=seven-bit codes=starting address register#kind of motion=",
-        &row,
-        numbers::ADDRESS,
+        &[
+            Octal(b"display address"),
+            Octal(b"pushdown pointer"),
+            Decimal(b"x"),
+            Decimal(b"y"),
+            Decimal(b"data state"),
+            Decimal(b"mode"),
+            Decimal(b"scale"),
+            Decimal(b"intensity"),
+            Decimal(b"pen enable"),
+            Decimal(b"pen hold"),
+            Decimal(b"pen sense"),
+            Decimal(b"blink"),
+            Decimal(b"idle"),
+            Octal(b"buttons"),
+            Decimal(b"hit flag of bank 1"),
+            Decimal(b"hit flag of bank 2"),
+            Decimal(b"internal stop flag"),
+            Decimal(b"external stop flag"),
+            Decimal(b"vertical edge flag"),
+            Decimal(b"horizontal edge flag"),
+            Decimal(b"pen flag"),
+            Decimal(b"manual interrupt flag"),
+            Octal(b"initial conditions"),
+            Decimal(b"running"),
+            Decimal(b"stop request"),
+            Decimal(b"word held"),
+            Octal(b"held word"),
+            Decimal(b"case"),
+            Decimal(b"seven-bit codes"),
+            Octal(b"starting address register"),
+            Decimal(b"kind of motion"),
+        ],
+        &row[numbers::ADDRESS..],
     )?;
-    let kind = row[numbers::KIND];
-    let stage = row[numbers::STAGE];
-    if kind == 1 {
-        write_line(out, &row, numbers::KIND)?;
+    // The kinds are the numbers of a row.
+    let motion = &row[numbers::KIND + 1..];
+    match row[numbers::KIND] {
+        1 => write_line(out, motion),
+        2 => write_bytes(out, motion),
+        3 => {
+            write_names(
+                out,
+                &[
+                    Octal(b"character, word"),
+                    Decimal(b"character, seven bits"),
+                    Decimal(b"character, right"),
+                    Decimal(b"stage of the character"),
+                ],
+                motion,
+            )?;
+            write_stage(out, &row[numbers::STAGE + 1..], row[numbers::STAGE])
+        }
+        _ => Ok(()),
     }
-    if kind == 2 {
-        write_bytes(out, &row, numbers::KIND)?;
-    }
-    if kind == 3 {
-        write_names(
-            out,
-            b"character, word#character, seven bits=character, right=stage of the character=",
-            &row,
-            numbers::KIND + 1,
-        )?;
-        write_stage(out, &row, stage)?;
-    }
-    Ok(())
 }
 
 fn write_change(out: &impl Print, address: u16, old: u16, new: u16) -> io::Result<()> {
     let mut line = [0u8; 64];
-    let addressed = text::put_address(address, &mut line, 0);
-    let was = text::put_all(b" was ", &mut line, addressed);
-    let before = text::put_word(old, &mut line, was);
-    let is = text::put_all(b", is ", &mut line, before);
-    let now = text::put_word(new, &mut line, is);
-    let ended = text::put(b'\n', &mut line, now);
-    emit(out, &line, ended)
+    let mut text = Text::new(&mut line);
+    text.put_address(address);
+    text.put_all(b" was ");
+    text.put_word(old);
+    text.put_all(b", is ");
+    text.put_word(new);
+    text.put(b'\n');
+    console::write(out, text.as_bytes())
 }
 
 // Writes each word that the run changed.
 pub(crate) fn write_changed(out: &impl Print, memory: &Memory, before: &Memory) -> io::Result<()> {
-    let mut i = 0;
-    while i < 32768 {
-        let at = i as usize;
+    for address in 0..32768 {
+        let at = address as usize;
         if memory[at] != before[at] {
-            write_change(out, i, before[at], memory[at])?;
+            write_change(out, address, before[at], memory[at])?;
         }
-        i += 1;
     }
     Ok(())
 }

@@ -1,4 +1,7 @@
 // Where a lesson goes wrong, told with its line, what is wrong with it, and the form.
+ghost use Rattle.std.specs.Prelude.{◌≤◌, length};
+
+use source::Source;
 use std::io;
 use std::io::Print;
 
@@ -10,22 +13,19 @@ struct Spot {
 }
 
 // The byte that makes a line none, or the end of the lesson.
-fn first_spot(input: &[u8]) -> Spot {
-    let mut s = source::unread();
-    let mut i = 0;
-    while i < input.len() {
-        let t = source::step(s, input[i]);
-        if t.place == 12 {
-            return Spot {
-                at: i,
-                place: s.place,
-            };
+fn first_spot(input: &[u8]) -> Spot
+    ensures { result.at ≤ length input.now }
+{
+    let mut s = Source::unread();
+    for (at, byte) in input.iter().enumerate() {
+        let next = s.step(*byte);
+        if next.is_broken() {
+            return Spot { at, place: s.place };
         }
-        s = t;
-        i += 1;
+        s = next;
     }
     Spot {
-        at: i,
+        at: input.len(),
         place: s.place,
     }
 }
@@ -42,43 +42,32 @@ fn fits(place: usize, byte: u8) -> bool {
 }
 
 // How much of a line stands right in that form.
-fn fitting(line: &[u8]) -> usize {
-    let mut i = 0;
-    while i < line.len() && i < lines::LINE {
+fn fitting(line: &[u8]) -> usize
+    ensures { (result ≤ 11) × (result ≤ length line.now) }
+{
+    let end = line.len().min(lines::LINE);
+    for i in 0..end {
         if !fits(i, line[i]) {
             return i;
         }
-        i += 1;
     }
-    i
+    end
 }
 
-// Where the line of a place begins.
-fn beginning(input: &[u8], at: usize) -> usize {
-    let mut begin = 0;
-    let mut i = 0;
-    while i < input.len() && i < at {
-        if input[i] == b'\n' {
-            begin = i + 1;
-        }
-        i += 1;
+// Where the line begins that goes on behind a text.
+fn beginning(before: &[u8]) -> usize
+    ensures { result ≤ length before.now }
+{
+    match before.iter().rposition(|byte| *byte == b'\n') {
+        Some(at) => at + 1,
+        None => 0,
     }
-    begin
 }
 
 // The number of that line, counted up to a million.
-fn number(input: &[u8], at: usize) -> u64 {
-    let mut count = 1;
-    let mut i = 0;
-    while i < input.len() && i < at {
-        if input[i] == b'\n' {
-            if count < 1000000 {
-                count += 1;
-            }
-        }
-        i += 1;
-    }
-    count
+fn number(before: &[u8]) -> u64 {
+    let ended = before.iter().filter(|byte| **byte == b'\n').count();
+    ended.min(999999) as u64 + 1
 }
 
 // A byte that a terminal can show.
@@ -92,32 +81,26 @@ fn plain(byte: u8) -> u8 {
 
 // Writes a line, its first 60 bytes at most.
 fn write_line(out: &impl Print, line: &[u8]) -> io::Result<()> {
-    let mut i = 0;
-    while i < line.len() && i < 60 && line[i] != b'\n' {
-        console::write(out, &[plain(line[i])])?;
-        i += 1;
+    for byte in line.iter().take(60) {
+        if *byte == b'\n' {
+            break;
+        }
+        console::write(out, &[plain(*byte)])?;
     }
     Ok(())
 }
 
 // What is wrong with a byte at a place of its line.
 fn tell_byte(out: &impl Print, place: u8, byte: u8) -> io::Result<()> {
-    if byte == b'\n' {
-        console::write(out, b"it is too short")
-    } else if byte == b'\t' {
-        console::write(out, b"there is a tab in it")
-    } else if byte == b'\r' {
-        console::write(out, b"there is a carriage return in it")
-    } else if place == 10 {
-        console::write(out, b"it is too long")
-    } else if place == 5 {
-        console::write(out, b"behind its first five digits there is no space")
-    } else if (byte == b'8') | (byte == b'9') {
-        console::write(out, b"8 and 9 are no octal digits")
-    } else if byte == b' ' {
-        console::write(out, b"it has too few digits, or a space too many")
-    } else {
-        console::write(out, b"it has a character that is no octal digit")
+    match (byte, place) {
+        (b'\n', _) => console::write(out, b"it is too short"),
+        (b'\t', _) => console::write(out, b"there is a tab in it"),
+        (b'\r', _) => console::write(out, b"there is a carriage return in it"),
+        (_, 10) => console::write(out, b"it is too long"),
+        (_, 5) => console::write(out, b"behind its first five digits there is no space"),
+        (b'8' | b'9', _) => console::write(out, b"8 and 9 are no octal digits"),
+        (b' ', _) => console::write(out, b"it has too few digits, or a space too many"),
+        _ => console::write(out, b"it has a character that is no octal digit"),
     }
 }
 
@@ -131,14 +114,14 @@ fn tell_end(out: &impl Print, place: u8) -> io::Result<()> {
 }
 
 // Tells the line of a place and what is wrong with it there.
-fn tell(out: &impl Print, input: &[u8], at: usize, place: u8) -> io::Result<()> {
-    let begin = beginning(input, at);
+fn tell(out: &impl Print, input: &[u8], at: usize, place: u8) -> io::Result<()>
+    requires { at ≤ length input.now }
+{
+    let before = &input[..at];
     console::write(out, b"line ")?;
-    console::write_decimal(out, number(input, at))?;
+    console::write_decimal(out, number(before))?;
     console::write(out, b" is '")?;
-    if begin <= input.len() {
-        write_line(out, &input[begin..])?;
-    }
+    write_line(out, &input[beginning(before)..])?;
     console::write(out, b"': ")?;
     if at < input.len() {
         tell_byte(out, place, input[at])
@@ -175,8 +158,7 @@ pub(crate) fn tell_lines(out: &impl Print, input: &[u8], count: usize) -> io::Re
     if count < 4096 {
         let begin = lines::LINE * count;
         if begin <= input.len() {
-            // Never above 11; the remainder spares every caller to say so.
-            let place = fitting(&input[begin..]) % 16;
+            let place = fitting(&input[begin..]);
             tell(out, input, begin + place, place as u8)?;
         }
         console::write(

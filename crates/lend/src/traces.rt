@@ -1,31 +1,15 @@
 // A run, a line a beat: where it stands, the words it takes up, where it leaves the beam, and its point.
-use crate::{Memory, emit};
+use crate::Memory;
 use addresses::DisplayAddress;
-use answers::Numbers;
 use arguments::Asked;
 use endings::Ending;
 use loan::Loan;
 use registers::{CharacterMotion, Motion, Registers, Stage};
-use source::Source;
+use runs::{Answer, Ran};
+use source::Span;
 use std::io;
 use std::io::Print;
-
-// A beat is made by a run of one beat, with room for one point or for none.
-#[derive(Clone, Copy)]
-struct Made {
-    registers: Registers,
-    told: Numbers,
-}
-
-fn make(r: Registers, l: Loan, memory: &mut Memory, points: &mut [u64]) -> Made {
-    let ran = calls::call(r, l, memory, points, 1);
-    let registers = ran.registers;
-    let answer = ran.answer;
-    Made {
-        registers,
-        told: calls::numbered(answer),
-    }
-}
+use text::Text;
 
 // What a beat takes up: the words at the display address, no word for a move, or the word that an unfinished character fetches.
 #[derive(Clone, Copy)]
@@ -48,8 +32,7 @@ struct View {
 }
 
 fn character_takes(c: CharacterMotion, starting: u8, upper: bool) -> Takes {
-    let stage = c.stage;
-    match stage {
+    match c.stage {
         Stage::Table => Takes::Table(characters::table_address(c, starting, upper)),
         Stage::Routine(_, next) => Takes::Routine(next),
         Stage::Increments(_, _) => Takes::Move,
@@ -67,11 +50,9 @@ fn taken_up(motion: Motion, starting: u8, upper: bool) -> Takes {
 }
 
 fn seen(r: Registers) -> View {
-    let motion = r.motion;
-    let address = r.base.address;
     View {
-        address,
-        takes: taken_up(motion, r.base.starting, r.base.upper),
+        address: r.base.address,
+        takes: taken_up(r.motion, r.base.starting, r.base.upper),
         datastate: r.base.datastate,
         mode: r.base.mode,
         x: r.base.x,
@@ -82,83 +63,74 @@ fn seen(r: Registers) -> View {
 // Whether a word has a second one: a jump, or data of a point, a vector or a vector continue.
 fn is_long(v: View, word: u16) -> bool {
     if v.datastate {
-        (v.mode == 0) | (v.mode == 2) | (v.mode == 3)
+        matches!(v.mode, 0 | 2 | 3)
     } else {
         word / 512 == 2
     }
 }
 
 fn word_at(memory: &Memory, address: DisplayAddress) -> u16 {
-    let at = (address.number() % 32768) as usize;
-    memory[at]
+    memory[(address.number() % 32768) as usize]
 }
 
 // The words of a command at the display address.
-fn put_command(v: View, memory: &Memory, line: &mut [u8], place: usize) -> usize {
-    let address = v.address;
-    let word = word_at(memory, address);
-    let first = text::put_word(word, line, place);
+fn put_command(v: View, memory: &Memory, text: &mut Text) {
+    let word = word_at(memory, v.address);
+    text.put_word(word);
     if is_long(v, word) {
-        let gap = text::put(b' ', line, first);
-        text::put_word(word_at(memory, address.after(1)), line, gap)
-    } else {
-        first
+        text.put(b' ');
+        text.put_word(word_at(memory, v.address.after(1)));
     }
 }
 
 // A word that an unfinished character fetches, with its address.
-fn put_fetched(address: DisplayAddress, memory: &Memory, line: &mut [u8], place: usize) -> usize {
-    let addressed = text::put_address(address.number(), line, place);
-    let gap = text::put(b' ', line, addressed);
-    text::put_word(word_at(memory, address), line, gap)
+fn put_fetched(address: DisplayAddress, memory: &Memory, text: &mut Text) {
+    text.put_address(address.number());
+    text.put(b' ');
+    text.put_word(word_at(memory, address));
 }
 
 // The words that a beat takes up.
-fn put_words(v: View, memory: &Memory, line: &mut [u8], place: usize) -> usize {
-    let takes = v.takes;
-    match takes {
-        Takes::Words => put_command(v, memory, line, place),
-        Takes::Move => text::put_all(b"a move", line, place),
+fn put_words(v: View, memory: &Memory, text: &mut Text) {
+    match v.takes {
+        Takes::Words => put_command(v, memory, text),
+        Takes::Move => text.put_all(b"a move"),
         Takes::Table(at) => {
-            let named = text::put_all(b"table word ", line, place);
-            put_fetched(at, memory, line, named)
+            text.put_all(b"table word ");
+            put_fetched(at, memory, text);
         }
         Takes::Routine(at) => {
-            let named = text::put_all(b"routine word ", line, place);
-            put_fetched(at, memory, line, named)
+            text.put_all(b"routine word ");
+            put_fetched(at, memory, text);
         }
     }
 }
 
 // What stands of a line before its beat: the beat may write over its own words.
-fn put_before(beat: u32, v: View, memory: &Memory, line: &mut [u8]) -> usize {
-    let named = text::put_all(b"beat ", line, 0);
-    let counted = text::put_decimal(beat, line, named);
-    let at = text::put_all(b" at ", line, counted);
-    let address = v.address;
-    let addressed = text::put_address(address.number(), line, at);
-    let taken = text::put_all(b": ", line, addressed);
-    put_words(v, memory, line, taken)
-}
-
-fn put_point(points: &[u64], count: usize, line: &mut [u8], place: usize) -> usize {
-    if (count == 1) & (0 < points.len()) {
-        let named = text::put_all(b", point ", line, place);
-        printout::put_points(points, 1, line, named)
-    } else {
-        text::put_all(b", no point\n", line, place)
-    }
+fn put_before(beat: u32, v: View, memory: &Memory, text: &mut Text) {
+    text.put_all(b"beat ");
+    text.put_decimal(beat);
+    text.put_all(b" at ");
+    text.put_address(v.address.number());
+    text.put_all(b": ");
+    put_words(v, memory, text);
 }
 
 // And what stands behind it.
-fn put_after(v: View, points: &[u64], count: usize, line: &mut [u8], place: usize) -> usize {
-    let beam = text::put_all(b", beam ", line, place);
-    let across = text::put_number(v.x as u32, b' ', line, beam);
-    let along = text::put_decimal(v.y as u32, line, across);
-    put_point(points, count, line, along)
+fn put_after(v: View, points: &[u64], text: &mut Text) {
+    text.put_all(b", beam ");
+    text.put_number(v.x as u32, b' ');
+    text.put_decimal(v.y as u32);
+    match points.first() {
+        Some(point) => {
+            text.put_all(b", point ");
+            printout::put_point(*point, text);
+        }
+        None => text.put_all(b", no point\n"),
+    }
 }
 
-// Makes one beat, and writes its line if it could be made.
+// Makes one beat by a run of one beat, with room for one point or for none, and writes its line if it could be made.
 fn write_beat(
     out: &impl Print,
     beat: u32,
@@ -166,62 +138,42 @@ fn write_beat(
     l: Loan,
     memory: &mut Memory,
     points: &mut [u64],
-) -> io::Result<Made> {
+) -> io::Result<Ran> {
     let mut line = [0u8; 128];
-    let before = put_before(beat, seen(r), memory, &mut line);
-    let made = make(r, l, memory, points);
-    let told = made.told;
+    let mut text = Text::new(&mut line);
+    put_before(beat, seen(r), memory, &mut text);
+    let ran = calls::call(r, l, memory, points, 1);
+    let told = calls::numbered(ran.answer);
     if told.beats == 1 {
-        let registers = made.registers;
-        let after = put_after(seen(registers), points, told.points, &mut line, before);
-        emit(out, &line, after)?;
+        let lit = told.points.min(points.len());
+        put_after(seen(ran.registers), &points[..lit], &mut text);
+        console::write(out, text.as_bytes())?;
     }
-    Ok(made)
-}
-
-// The same, with room for one point or for none.
-fn write_lit(
-    out: &impl Print,
-    beat: u32,
-    r: Registers,
-    l: Loan,
-    memory: &mut Memory,
-    room: bool,
-) -> io::Result<Made> {
-    if room {
-        let mut point = [0u64; 1];
-        write_beat(out, beat, r, l, memory, &mut point)
-    } else {
-        let mut nowhere = [0u64; 0];
-        write_beat(out, beat, r, l, memory, &mut nowhere)
-    }
-}
-
-// Whether a point was lit, and had room.
-fn lit(told: Numbers) -> u32 {
-    if told.points == 1 { 1 } else { 0 }
+    Ok(ran)
 }
 
 // Writes a line for each beat of the run that was asked for.
-pub(crate) fn write(out: &impl Print, a: Asked, s: Source, memory: &mut Memory) -> io::Result<()> {
+pub(crate) fn write(out: &impl Print, a: Asked, s: Span, memory: &mut Memory) -> io::Result<()> {
     let l = asked::lent(a, s);
     let mut r = asked::started(a, s);
-    let mut room = a.limits.room;
-    // Never above 65,535; the remainder spares every caller to say so.
-    let budget = a.limits.budget % 65536;
-    let mut beat = 0;
-    while beat < budget {
-        let made = write_lit(out, beat + 1, r, l, memory, 0 < room)?;
-        let told = made.told;
-        if told.ending != endings::ending_numbers(Ending::BudgetSpent).number {
+    let mut room = a.room;
+    for beat in 0..a.budget {
+        let mut point = [0u64; 1];
+        let ran = write_beat(
+            out,
+            beat + 1,
+            r,
+            l,
+            memory,
+            &mut point[..room.min(1) as usize],
+        )?;
+        let Answer::Ended(Ending::BudgetSpent, _, lit) = ran.answer else {
             return Ok(());
+        };
+        if lit == 1 {
+            room = room.saturating_sub(1);
         }
-        let point = lit(told);
-        if point <= room {
-            room -= point;
-        }
-        r = made.registers;
-        beat += 1;
+        r = ran.registers;
     }
     Ok(())
 }

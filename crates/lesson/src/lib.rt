@@ -2,11 +2,14 @@
 #![tactic(auto)]
 
 ghost use Rattle.std.specs.Prelude.{◌≡◌, ◌≤◌, length};
-ghost use Rattle.text.specs.Text.{filled, puts, whole};
+ghost use Rattle.text.specs.Text.{filled, whole};
+ghost use Rattle.text.specs.Adds.{Adds};
 ghost use Rattle.lesson.specs.Lesson.{blank, room, begun, played, told, practice, Enough};
 
+use host::Operation;
 use loan::Loan;
 use registers::Registers;
+use text::Text;
 
 // The memory before any line, and the point list before the run. Arrays of their own functions, so that no other proof has them written out.
 #[tactic(auto, unfolding(crate::specs::Lesson::blank))]
@@ -28,12 +31,12 @@ fn room() -> [u64; 1024]
 fn begun(address: u16) -> Registers
     ensures { result ≡ begun address }
 {
-    host::operate(registers::fresh(), 1, address as u32).registers
+    host::operate(registers::fresh(), Operation::Start.into(), address as u32).registers
 }
 
 // Runs the memory from an address, and writes what the display lit and how it ended.
-fn play(address: u16, memory: &mut [u16; 32768], text: &mut [u8], place: usize) -> usize
-    ensures written { filled result text.new ≡ puts (told (played address memory.old)) (filled place text.old) }
+fn play(address: u16, memory: &mut [u16; 32768], text: &mut Text)
+    ensures written { Adds text.old text.new (told (played address memory.old)) }
     ensures short { length (told (played address memory.old)) ≤ 30745 }
 {
     let mut points = room();
@@ -46,22 +49,32 @@ fn play(address: u16, memory: &mut [u16; 32768], text: &mut [u8], place: usize) 
     let ran = calls::call(begun(address), all, memory, &mut points, 65535);
     let answer = ran.answer;
     let told = calls::numbered(answer);
-    let drawn = printout::put_points(&points, told.points, text, place);
-    printout::put_ending(told.ending, told.beats, text, drawn)
+    printout::put_points(&points, told.points, text);
+    printout::put_ending(told.ending, told.beats, text);
 }
 
-// What the practice program writes for what it reads, at the start of a list that has room for the longest answer: 1,024 points of at most 30 bytes
-// each, and the last line of at most 25.
-pub fn practice(input: &[u8], text: &mut [u8; 30745]) -> usize
-    ensures { filled result text.new ≡ whole (practice input.now) text.old }
+// What the practice program writes for what it reads, put into a text.
+fn put_answer(input: &[u8], text: &mut Text)
+    ensures written { Adds text.old text.new (practice input.now) }
+    ensures short { length (practice input.now) ≤ 30745 }
 {
     let mut memory = blank();
     let count = lines::read(input, &mut memory);
     if (1 <= count) & (lines::LINE * count == input.len()) {
-        play(lines::start(input), &mut memory, text, 0)
+        play(lines::start(input), &mut memory, text);
     } else {
-        printout::put_bad_line((count + 1) as u32, text, 0)
+        printout::put_bad_line((count + 1) as u32, text);
     }
+}
+
+// The same at the start of a list that has room for the longest answer, 1,024 points of at most 30 bytes each and the last line of at most 25; answered is how
+// many bytes it has.
+pub fn practice(input: &[u8], list: &mut [u8; 30745]) -> usize
+    ensures { filled result list.new ≡ whole (practice input.now) list.old }
+{
+    let mut text = Text::new(list);
+    put_answer(input, &mut text);
+    text.place
 }
 
 // What comes behind the first 45,057 bytes changes nothing. It does nothing: its promise is the theorem, so that a check names it.

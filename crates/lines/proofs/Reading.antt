@@ -57,9 +57,12 @@ module _ (most : ℕ) (s m₀ : List ℕ) (count : ℕ) (m : List ℕ) (h : Far 
   unfolding read pick
   ends lt line = let k : most - count ≡ suc (most - (count + 1)) = omega arith in over (rw (k, line))
 
-  pub full : most ≤ count → reads count m ≡ read most s 0 m₀
+  pub full : most ≤ count → reads most m ≡ read most s 0 m₀
   unfolding read
-  full le = let k : most - count ≡ 0 = omega arith in over (rw k)
+  full le =
+      let k : most - count ≡ 0 = omega arith in
+      let e : most ≡ count = omega (arith, h.0) in
+      ap (λ (n : ℕ). reads n m) e ∙ over (rw k)
 
 more_few : (k : ℕ) (t : Bool) (rest : Read) (m : List ℕ) → rest.count ≤ k → (pick t (reads (suc rest.count) rest.memory) (reads 0 m)).count ≤ suc k
 unfolding pick

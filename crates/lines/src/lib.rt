@@ -7,6 +7,9 @@ ghost use Rattle.lines.specs.Lines.{is_octal, octals, is_line, digit, four, addr
 // A line has eleven bytes: five octal digits, a space, four octal digits, a newline.
 pub const LINE: usize = 11;
 
+// So many lines may be read.
+const MOST: usize = 4096;
+
 pub fn is_octal(byte: u8) -> bool
     ensures { result ≡ is_octal byte }
 {
@@ -29,15 +32,12 @@ fn is_line(input: &[u8], at: usize) -> bool
     requires { at ≤ 45056 }
     ensures { result ≡ is_line input.now at }
 {
-    if at + LINE <= input.len() {
-        octals(input, at)
-            & is_octal(input[at + 4])
-            & (input[at + 5] == b' ')
-            & octals(input, at + 6)
-            & (input[at + 10] == b'\n')
-    } else {
-        false
-    }
+    at + LINE <= input.len()
+        && octals(input, at)
+        && is_octal(input[at + 4])
+        && input[at + 5] == b' '
+        && octals(input, at + 6)
+        && input[at + 10] == b'\n'
 }
 
 // The digit 0 is 60o, so a digit's value is its last three bits.
@@ -70,14 +70,15 @@ fn address(input: &[u8], at: usize) -> u16
 pub fn read(input: &[u8], memory: &mut [u16; 32768]) -> usize
     ensures { reads result memory.new ≡ read 4096 input.now 0 memory.old }
 {
-    let mut count = 0;
-    while count < 4096 && is_line(input, LINE * count) {
+    for count in 0..MOST {
         let at = LINE * count;
+        if !is_line(input, at) {
+            return count;
+        }
         let place = address(input, at) as usize;
         memory[place] = four(input, at + 6);
-        count += 1;
     }
-    count
+    MOST
 }
 
 // The first line's address.

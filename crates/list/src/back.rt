@@ -2,123 +2,90 @@
 ghost use Rattle.std.specs.Prelude.{◌≤◌, length};
 
 use crate::asked::Start;
-use crate::{Memory, emit, faults};
+use crate::{Memory, faults};
+use listing::Refusal;
+use numerals::Bounds;
 use std::io;
 use std::io::Print;
+use text::Text;
 
-// Where a stretch of a listing ends, and how many lines it has behind its first.
-#[derive(Clone, Copy)]
-struct Stretch {
-    end: usize,
-    further: usize,
+// How many bytes the stretch has that a text begins with. A blank line ends it if something comes behind.
+fn stretch(text: &[u8]) -> usize
+    ensures { result ≤ length text.now }
+{
+    match text
+        .windows(3)
+        .position(|bytes| matches!(bytes, [b'\n', b'\n', _]))
+    {
+        Some(at) => at + 1,
+        None => text.len(),
+    }
 }
 
-// The stretch that begins at a place. A blank line ends it if something comes behind.
-fn stretch_at(input: &[u8], at: usize) -> Stretch
-    requires { at ≤ length input.now }
-    ensures { (at ≤ result.end) × (result.end ≤ length input.now) }
-{
-    let mut before = 0u8;
-    let mut further = 0;
-    let mut i = at;
-    while i < input.len() {
-        if before == b'\n' {
-            if (input[i] == b'\n') & (i + 1 < input.len()) {
-                return Stretch { end: i, further };
-            }
-            further += 1;
-        }
-        before = input[i];
-        i += 1;
-    }
-    Stretch { end: i, further }
+// How many lines end in a text.
+fn ended(text: &[u8]) -> usize {
+    text.iter().filter(|byte| **byte == b'\n').count()
 }
 
-// The address behind a stretch's last line: no line is beyond 77777.
-fn behind(low: u16, further: usize) -> u16
-    requires { low ≤ 32767 }
-{
-    if further <= (32767 - low) as usize {
-        low + further as u16 + 1
-    } else {
-        32768
-    }
+// Where the words of a stretch stand: no line is beyond 77777.
+fn range(stretch: &[u8]) -> Bounds {
+    let low = lines::start(stretch) % 32768;
+    // The lines behind its first.
+    let further = ended(&stretch[..stretch.len().saturating_sub(1)]);
+    let high = low + further.min((32767 - low) as usize) as u16 + 1;
+    Bounds { low, high }
 }
 
 // Writes a line of a lesson.
 fn write_line(out: &impl Print, address: u16, word: u16) -> io::Result<()> {
     let mut line = [0u8; 11];
-    let addressed = text::put_address(address, &mut line, 0);
-    let spaced = text::put(b' ', &mut line, addressed);
-    let worded = text::put_word(word, &mut line, spaced);
-    let ended = text::put(b'\n', &mut line, worded);
-    emit(out, &line, ended)
+    let mut text = Text::new(&mut line);
+    text.put_address(address);
+    text.put(b' ');
+    text.put_word(word);
+    text.put(b'\n');
+    console::write(out, text.as_bytes())
 }
 
 // Writes the lines of a range of words.
-fn write_lines(out: &impl Print, memory: &Memory, low: u16, high: u16) -> io::Result<()> {
-    let mut address = low;
-    while address < high && address < 32768 {
+fn write_lines(out: &impl Print, memory: &Memory, range: Bounds) -> io::Result<()> {
+    for address in range.low..range.high.min(32768) {
         write_line(out, address, memory[address as usize])?;
-        address += 1;
     }
     Ok(())
 }
 
-// Reads a stretch, writes its words where that is asked for, and answers its first line not in form, or 0.
-fn read_stretch(
-    out: &impl Print,
-    s: Start,
-    writing: bool,
-    text: &[u8],
-    further: usize,
-    memory: &mut Memory,
-) -> io::Result<u32> {
-    let low = lines::start(text) % 32768;
-    let high = behind(low, further);
-    let answer = unlisting::read(text, memory, low, high, s.state, s.mode);
-    if writing {
-        write_lines(out, memory, low, high)?;
+// The first line of a stretch that is not in form, if there is one.
+fn read_stretch(s: Start, text: &[u8], memory: &mut Memory, range: Bounds) -> Option<u32> {
+    match unlisting::read(text, memory, range.low, range.high, s.state, s.mode) {
+        Err(Refusal::Line(line)) => Some(line),
+        _ => None,
     }
-    Ok(unlisting::numbered(answer).line)
 }
 
-// How many lines end in a text.
-fn ended(text: &[u8]) -> usize {
-    let mut count = 0;
-    let mut i = 0;
-    while i < text.len() {
-        if text[i] == b'\n' {
-            count += 1;
-        }
-        i += 1;
-    }
-    count
-}
-
-// Reads all stretches, writes their words where that is asked for, and answers the first line not in form, or 0.
-fn read(
-    out: &impl Print,
+// Reads all stretches, does what is to be done with the words of each, and answers the first line not in form, if there is one.
+fn read<F: FnMut(&Memory, Bounds) -> io::Result<()>>(
     s: Start,
-    writing: bool,
     input: &[u8],
     memory: &mut Memory,
-) -> io::Result<usize> {
+    mut each: F,
+) -> io::Result<Option<usize>>
+    requires { F.IsAlwaysCallable each }
+{
     let mut at = 0;
+    // Each turn goes on by a stretch, whose length is found in the turn, so that no range fits.
     while at < input.len() {
-        let t = stretch_at(input, at);
-        let end = t.end;
-        let line = read_stretch(out, s, writing, &input[at..end], t.further, memory)?;
-        if line != 0 {
+        let length = stretch(&input[at..]);
+        let text = &input[at..at + length];
+        let range = range(text);
+        if let Some(line) = read_stretch(s, text, memory, range) {
             // Never so many; the remainders spare every caller to say so.
-            return Ok(ended(&input[..at]) % 2000000 + (line % 2000000) as usize);
+            return Ok(Some(ended(&input[..at]) % 2000000 + (line % 2000000) as usize));
         }
-        if end == input.len() {
-            return Ok(0);
-        }
-        at = end + 1;
+        each(memory, range)?;
+        at += length + 1;
     }
-    Ok(0)
+    Ok(None)
 }
 
 // Writes the lesson that a listing makes, or its first line not in form: of an empty listing that is line 1.
@@ -129,14 +96,16 @@ pub(crate) fn write(
     input: &[u8],
     memory: &mut Memory,
 ) -> io::Result<()> {
-    if input.len() == 0 {
+    if input.is_empty() {
         return faults::tell_listing(out, err, 1);
     }
-    let line = read(out, s, false, input, memory)?;
-    if line == 0 {
-        read(out, s, true, input, memory)?;
-        Ok(())
-    } else {
-        faults::tell_listing(out, err, line as u64)
+    match read(s, input, memory, |_, _| Ok(()))? {
+        Some(line) => faults::tell_listing(out, err, line as u64),
+        None => {
+            read(s, input, memory, |memory, range| {
+                write_lines(out, memory, range)
+            })?;
+            Ok(())
+        }
     }
 }

@@ -3,35 +3,25 @@ use source::Source;
 use std::io;
 use std::io::Print;
 
-// An argument that is not what is wanted of it.
-pub(crate) fn tell_argument(err: &impl Print, wanted: &[u8], argument: &[u8]) -> io::Result<()> {
-    console::write(err, wanted)?;
-    console::write(err, b": '")?;
-    console::write(err, argument)?;
-    console::write(err, b"' cannot be taken.\n")
-}
-
 // How many lines end before the first byte that cannot be taken, or before the lesson does.
 fn lines_before(input: &[u8]) -> usize {
-    let mut s = source::unread();
+    let mut s = Source::unread();
     let mut count = 0;
-    let mut i = 0;
-    while i < input.len() {
-        s = source::step(s, input[i]);
-        if s.place == 12 {
-            return count;
+    for byte in input {
+        s = s.step(*byte);
+        if s.is_broken() {
+            break;
         }
-        if input[i] == b'\n' {
+        if *byte == b'\n' {
             count += 1;
         }
-        i += 1;
     }
     count
 }
 
 // A lesson that is none.
 pub(crate) fn tell_lesson(err: &impl Print, input: &[u8], s: Source) -> io::Result<()> {
-    if s.any | (s.place == 12) {
+    if s.span.is_some() | s.is_broken() {
         // Never a million lines; the remainder spares every caller to say so.
         let line = lines_before(input) % 1000000 + 1;
         console::write(err, b"line ")?;

@@ -2,13 +2,16 @@
 #![tactic(auto)]
 
 ghost use Rattle.std.specs.Prelude.{◌≡◌};
-ghost use Rattle.text.specs.Text.{filled, puts};
+ghost use Rattle.text.specs.Adds.{Adds};
 ghost use Rattle.listed_lines.specs.ListedLines.{endless, long, escapes, starting, drawn, obeyed, after, shown, fields_of, line_of};
+
+use text::Text;
 
 // Where a listing stands before a word.
 #[derive(Clone, Copy)]
 pub struct Standing {
     pub datastate: bool,
+    // A number, as the register is.
     pub mode: u8,
     // The word is the second one of its command.
     pub second: bool,
@@ -17,13 +20,13 @@ pub struct Standing {
 fn endless(mode: u8) -> bool
     ensures { result ≡ endless mode }
 {
-    (mode == 5) | (mode == 7)
+    matches!(mode, 5 | 7)
 }
 
 fn long(mode: u8) -> bool
     ensures { result ≡ long mode }
 {
-    (mode == 0) | (mode == 2) | (mode == 3)
+    matches!(mode, 0 | 2 | 3)
 }
 
 // Whether a command's last word escapes to control state.
@@ -31,13 +34,13 @@ fn long(mode: u8) -> bool
 fn escapes(mode: u8, word: u16) -> bool
     ensures { result ≡ escapes mode word }
 {
-    if mode == 1 {
-        registers::escapes(registers::byte_at(word, false))
-            | registers::escapes(registers::byte_at(word, true))
-    } else if mode == 4 {
-        words::bit(word, 6)
-    } else {
-        words::bit(word, 0)
+    match mode {
+        1 => {
+            registers::escapes(registers::byte_at(word, false))
+                | registers::escapes(registers::byte_at(word, true))
+        }
+        4 => words::bit(word, 6),
+        _ => words::bit(word, 0),
     }
 }
 
@@ -73,7 +76,7 @@ fn obeyed(s: Standing, word: u16) -> Standing
     let given = (words::bits(word, 6, 8) % 8) as u8;
     Standing {
         datastate: ((operation == 1) | (operation == 3)) & words::bit(word, 11),
-        mode: words::pick_u8((operation == 1) & words::bit(word, 5), given, s.mode),
+        mode: words::pick((operation == 1) & words::bit(word, 5), given, s.mode),
         second: operation == 2,
     }
 }
@@ -118,23 +121,21 @@ impl Standing {
 
 // What a line shows of a word behind its octal digits.
 #[tactic(auto, unfolding(text::specs::Text::puts, words::specs::Words::pick))]
-fn put_shown(word: u16, shown: bool, text: &mut [u8], place: usize) -> usize
-    ensures { filled result text.new ≡ puts (fields_of word shown) (filled place text.old) }
+fn put_shown(word: u16, shown: bool, text: &mut Text)
+    ensures { Adds text.old text.new (fields_of word shown) }
 {
     if shown {
-        mnemonics::put_mnemonics(word, text, place)
-    } else {
-        place
+        mnemonics::put_mnemonics(word, text);
     }
 }
 
 // The line of a word.
-pub fn put_line(address: u16, word: u16, shown: bool, text: &mut [u8], place: usize) -> usize
-    ensures { filled result text.new ≡ puts (line_of address word shown) (filled place text.old) }
+pub fn put_line(address: u16, word: u16, shown: bool, text: &mut Text)
+    ensures { Adds text.old text.new (line_of address word shown) }
 {
-    let addressed = text::put_address(address, text, place);
-    let spaced = text::put(b' ', text, addressed);
-    let worded = text::put_word(word, text, spaced);
-    let named = put_shown(word, shown, text, worded);
-    text::put(b'\n', text, named)
+    text.put_address(address);
+    text.put(b' ');
+    text.put_word(word);
+    put_shown(word, shown, text);
+    text.put(b'\n');
 }

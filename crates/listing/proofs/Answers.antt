@@ -1,48 +1,57 @@
 -- What a listing answers: where 1, 3 or 6 refuses, and behind them by what was measured. Assumes nothing.
 use Prim.Native.Nat.{ℕ, ◌≤◌, ◌<◌}
 use mathlib.Core.Path.{◌≡◌, sym, ◌∙◌, ap}
-use mathlib.Core.Bool.{true, false}
+use mathlib.Core.Bool.{true}
 use mathlib.Core.List.{List}
+use Rattle.std.specs.Prelude.{Result, Ok, Err}
 use lib.ListN.{length}
 use lib.Seq.{slice}
-use borrow.Author.Tests.{eq-eqb, ne_eqb, lt-ltb, le-ltb}
+use borrow.Author.Tests.{lt-ltb, le-ltb}
 use Rattle.words.specs.Words.{pick}
+use Rattle.words.proofs.Laws.{pick_case}
 use Rattle.text.specs.Text.{Filled, filled, puts, whole}
 use Rattle.text.proofs.Puts.{puts_whole}
 use Rattle.listed_lines.specs.declared.Standing.{Standing}
 use Rattle.listed_lines.specs.ListedLines.{starting}
-use Rattle.listing.specs.declared.Measured.{Measured}
-use Rattle.listing.specs.declared.Listed.TheVariants.{Refused, Done}
-use Rattle.listing.specs.Listing.{lines_of, text, good, refusal, leaves, listed}
+use Rattle.listing.specs.declared.Refusal.{Refusal}
+use Rattle.listing.specs.declared.Refusal.TheVariants.{Word, Room}
+use Rattle.listing.specs.Listing.{lines_of, text, good, refusal, leaves, unless_refused, listed}
 use Rattle.listing.specs.Measuring.{measured}
+use Rattle.listing.proofs.Unrefused.{not_refused}
 
-pub refused : (m : List ℕ) (low high state mode : ℕ) (t : List ℕ) {n : ℕ} → n ≡ refusal (length m) low high state mode → (n ≡ 0 → ⊥) →
-    leaves (Refused n) t ≡ listed m low high state mode t
-unfolding listed pick
-refused m low high state mode t {n} e h = rw (← e, ne_eqb n 0 h)
+pub refused : (m : List ℕ) (low high state mode : ℕ) (t : List ℕ) {r : Refusal} → Err r ≡ refusal (length m) low high state mode →
+    leaves (Err r) t ≡ listed m low high state mode t
+unfolding listed unless_refused
+refused m low high state mode t e = rw (← e)
 
-module _ (m : List ℕ) (low high state mode : ℕ) (t : List ℕ) {from : Standing} {r : Measured} (accepted : refusal (length m) low high state mode ≡ 0)
-    (begun : from ≡ starting state mode) (e : r ≡ measured low from (slice low high m)) where
-  goodness : good (slice low high m) ≡ r.good
-  goodness = sym (ap (λ (q : Measured). q.good) e)
+-- words whose lines were measured
+record Sized (ws lines : List ℕ) (n : ℕ) : Type 0 where
+  goodness : good ws ≡ true
+  size : length lines ≡ n
 
-  lines : lines_of low from (slice low high m) ≡ text m low high state mode
-  lines = rw begun
+module _ (m : List ℕ) (low high state mode : ℕ) (t : List ℕ) {from : Standing} (accepted : refusal (length m) low high state mode ≡ Ok tt)
+    (begun : from ≡ starting state mode) where
+  pub wide : {r : Refusal} → Err r ≡ measured low from (slice low high m) → leaves (Err r) t ≡ listed m low high state mode t
+  unfolding listed unless_refused pick
+  wide {r} =
+      pick_case (λ (q : Result ℕ Refusal). Err r ≡ q → leaves (Err r) t ≡ listed m low high state mode t) (good (slice low high m))
+      (λ _ e. absurd (not_refused e))
+      (λ h e. let word : r ≡ Word = cc in rw (accepted, h, word))
 
-  size : length (text m low high state mode) ≡ r.length
-  size = sym (ap (λ (q : Measured). q.length) e ∙ ap length lines)
+  sized : {n : ℕ} → Ok n ≡ measured low from (slice low high m) → Sized (slice low high m) (text m low high state mode) n
+  sized {n} =
+      pick_case (λ (q : Result ℕ Refusal). Ok n ≡ q → Sized (slice low high m) (text m low high state mode) n) (good (slice low high m))
+      (λ h e. let size : length (lines_of low from (slice low high m)) ≡ n = cc in record { goodness = h; size = rw begun at size })
+      (λ _ e. absurd (not_refused (sym e)))
 
-  pub wide : r.good ≡ false → leaves (Refused 24) t ≡ listed m low high state mode t
-  unfolding listed pick
-  wide h = rw (eq-eqb _ _ accepted, goodness ∙ h)
+  pub short : {n : ℕ} → Ok n ≡ measured low from (slice low high m) → length t < n → leaves (Err Room) t ≡ listed m low high state mode t
+  unfolding listed unless_refused pick
+  short e k = let s = sized e in rw (accepted, s.goodness, lt-ltb (length t) (length (text m low high state mode)) (rw s.size k))
 
-  pub short : r.good ≡ true → length t < r.length → leaves (Refused 23) t ≡ listed m low high state mode t
-  unfolding listed pick
-  short h k = rw (eq-eqb _ _ accepted, goodness ∙ h, lt-ltb (length t) (length (text m low high state mode)) (rw size k))
-
-  pub done : r.good ≡ true → r.length ≤ length t → {f : Filled} → f ≡ puts (lines_of low from (slice low high m)) (filled 0 t) →
-      leaves (Done f.place) f.bytes ≡ listed m low high state mode t
-  unfolding listed pick whole
-  done h k p =
-      rw (eq-eqb _ _ accepted, goodness ∙ h, le-ltb (length t) (length (text m low high state mode)) (rw size k))
-      (ap (λ (g : Filled). leaves (Done g.place) g.bytes) (rw lines at p ∙ puts_whole (text m low high state mode) t (rw size k)))
+  pub done : {n : ℕ} → Ok n ≡ measured low from (slice low high m) → n ≤ length t → {f : Filled} → f ≡ puts (lines_of low from (slice low high m)) (filled 0 t) →
+      leaves (Ok f.place) f.bytes ≡ listed m low high state mode t
+  unfolding listed unless_refused pick whole
+  done e k p =
+      let s = sized e in
+      rw (accepted, s.goodness, le-ltb (length t) (length (text m low high state mode)) (rw s.size k))
+      (ap (λ (g : Filled). leaves (Ok g.place) g.bytes) (rw begun at p ∙ puts_whole (text m low high state mode) t (rw s.size k)))

@@ -1,27 +1,32 @@
 -- How a listing goes on from word to word: what is measured and put from an address on begins with the line there. Assumes nothing.
 use Prim.Native.Nat.{ℕ, suc, ◌+◌, ◌≤◌, ◌<◌}
 use mathlib.Core.Path.{◌≡◌, refl}
-use mathlib.Core.Bool.{Bool, true, ◌&&◌, and_assoc, and-true}
-use mathlib.Core.List.{List, [], ◌∷◌}
+use mathlib.Core.Bool.{Bool, true, false}
+use mathlib.Core.List.{List, [], ◌∷◌, ◌++◌}
 use native.Mathlib.Nat.{add-zero, zero-add, add_assoc}
 use native.Mathlib.Omega.{arith}
-use Rattle.std.specs.Prelude.{nat_le}
+use Rattle.std.specs.Prelude.{Result, Ok, Err}
 use lib.ListN.{length, get_or, length-append}
 use lib.Seq.{slice, slice-cons, slice_empty}
+use borrow.Author.Tests.{le-leb, lt-leb}
+use Rattle.words.specs.Words.{pick}
 use Rattle.text.specs.Text.{Filled, puts}
 use Rattle.text.proofs.Puts.{behind}
 use Rattle.listed_lines.specs.declared.Standing.{Standing}
 use Rattle.listed_lines.specs.ListedLines.{after, shown, line_of}
-use Rattle.listing.specs.declared.Measured.{Measured}
+use Rattle.listing.specs.declared.Refusal.{Refusal}
+use Rattle.listing.specs.declared.Refusal.TheVariants.{Word}
 use Rattle.listing.specs.Listing.{lines_of, good}
 use Rattle.listing.specs.Measuring.{measured}
 
 -- what was measured before a rest
-abbrev pub also : Bool → ℕ → Measured → Measured
-also before total rest = record { good = before && rest.good; length = total + rest.length }
+abbrev pub also : ℕ → Result ℕ Refusal → Result ℕ Refusal
+also total (Ok length) = Ok (total + length)
+also total (Err refusal) = Err refusal
 
-pub also_nothing : (r : Measured) → also true 0 r ≡ r
-also_nothing r = rw (zero-add r.length)
+pub also_nothing : (r : Result ℕ Refusal) → also 0 r ≡ r
+also_nothing (Ok length) = rw (zero-add length)
+also_nothing (Err refusal) = refl
 
 module _ (m : List ℕ) (high a : ℕ) (s : Standing) where
   -- one word more: it is w, and the standing behind it is t
@@ -30,11 +35,20 @@ module _ (m : List ℕ) (high a : ℕ) (s : Standing) where
     from_word =
         let next : a + 1 ≡ suc a = omega arith in rw (next, word) (slice-cons a high m 0 more inside)
 
-    pub measured_next : (before : Bool) (total : ℕ) →
-        also (before && nat_le w 4095) (total + length (line_of a w (shown s))) (measured (a + 1) t (slice (a + 1) high m)) ≡ also before total (measured a s (slice a high m))
-    unfolding lines_of good
-    measured_next before total =
-        rw (from_word, ← standing, length-append, ← add_assoc total (length (line_of a w (shown s))), and_assoc before (nat_le w 4095))
+    pub measured_next : w ≤ 4095 → (total : ℕ) →
+        also (total + length (line_of a w (shown s))) (measured (a + 1) t (slice (a + 1) high m)) ≡ also total (measured a s (slice a high m))
+    unfolding lines_of good pick
+    measured_next small total =
+        rw (from_word, ← standing, le-leb w 4095 small) (by (good (slice (a + 1) high m)))
+      where
+        by : (g : Bool) → also (total + length (line_of a w (shown s))) (pick g (Ok (length (lines_of (a + 1) t (slice (a + 1) high m)))) (Err Word))
+            ≡ also total (pick g (Ok (length (line_of a w (shown s) ++ lines_of (a + 1) t (slice (a + 1) high m)))) (Err Word))
+        by true = rw (length-append, add_assoc total (length (line_of a w (shown s))))
+        by false = refl
+
+    pub measured_wide : 4095 < w → (total : ℕ) → Err Word ≡ also total (measured a s (slice a high m))
+    unfolding good pick
+    measured_wide wide total = rw (from_word, lt-leb w 4095 wide)
 
     pub lines_next : (f : Filled) {g : Filled} → g ≡ puts (line_of a w (shown s)) f →
         puts (lines_of (a + 1) t (slice (a + 1) high m)) g ≡ puts (lines_of a s (slice a high m)) f
@@ -46,9 +60,9 @@ module _ (m : List ℕ) (high a : ℕ) (s : Standing) where
     no_word : slice a high m ≡ []
     no_word = let e : a ≡ high = omega arith in rw e (slice_empty high m)
 
-    pub measured_last : (before : Bool) (total : ℕ) → record { good = before; length = total } ≡ also before total (measured a s (slice a high m))
-    unfolding lines_of good
-    measured_last before total = rw (no_word, and-true before, add-zero total)
+    pub measured_last : (total : ℕ) → Ok total ≡ also total (measured a s (slice a high m))
+    unfolding lines_of good pick
+    measured_last total = rw (no_word, add-zero total)
 
     pub lines_last : (f : Filled) → f ≡ puts (lines_of a s (slice a high m)) f
     unfolding lines_of puts

@@ -1,9 +1,11 @@
 -- No reader has to believe this file: it says what the code measures before it puts a line. Assumes nothing.
-use Rattle.std.specs.Prelude.{ℕ, List, length}
+use Rattle.std.specs.Prelude.{ℕ, List, length, Result, Ok, Err}
+use Rattle.words.specs.Words.{pick}
 use Rattle.listed_lines.specs.declared.Standing.{Standing}
-use Rattle.listing.specs.declared.Measured.{Measured}
+use Rattle.listing.specs.declared.Refusal.{Refusal}
+use Rattle.listing.specs.declared.Refusal.TheVariants.{Word}
 use Rattle.listing.specs.Listing.{lines_of, good}
 
--- whether words are good, and how long their lines are
-abbrev pub measured : ℕ → Standing → List ℕ → Measured
-measured a s ws = record { good = good ws; length = length (lines_of a s ws) }
+-- how long the lines of words are, where all words are good
+abbrev pub measured : ℕ → Standing → List ℕ → Result ℕ Refusal
+measured a s ws = pick (good ws) (Ok (length (lines_of a s ws))) (Err Word)

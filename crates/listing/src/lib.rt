@@ -4,20 +4,32 @@
 ghost use Rattle.std.specs.Prelude.{◌≡◌, ◌≤◌, length};
 ghost use Rattle.std.proofs.Math.Seq.{slice};
 ghost use Rattle.text.specs.Text.{filled, puts};
+ghost use Rattle.text.specs.Adds.{Adds};
 ghost use Rattle.listed_lines.specs.ListedLines.{line_of};
-ghost use Rattle.listing.specs.Listing.{refusal, lines_of, numbered, leaves, listed};
+ghost use Rattle.listing.specs.Listing.{number, line, refusal, lines_of, numbered, leaves, listed};
 ghost use Rattle.listing.specs.Measuring.{measured};
 
 use listed_lines::Standing;
+use text::Text;
 
 // No line is longer: ten bytes, 55 names with a space each, a space and four digits, a newline.
 pub const LONGEST: usize = 346;
 
-// How a listing is answered: a refusal's number, or how many bytes the text has.
-#[derive(Clone, Copy)]
-pub enum Listed {
-    Refused(u8),
-    Done(usize),
+// Why a listing or its reading is refused.
+#[derive(Clone, Copy, Debug, PartialEq, Eq)]
+pub enum Refusal {
+    // The memory is not 32,768 long.
+    Memory,
+    // Of the range.
+    Range,
+    // Of the state or the mode.
+    Start,
+    // A word is above 4,095.
+    Word,
+    // The text list is too short.
+    Room,
+    // The first line not in form, from 1.
+    Line(u32),
 }
 
 // This paper's numbers for what a listing or its reading answers.
@@ -30,25 +42,46 @@ pub struct ListingNumbers {
     pub length: usize,
 }
 
-// Whether all words of a range are good, and how long their lines are.
-#[derive(Clone, Copy)]
-struct Measured {
-    good: bool,
-    length: usize,
+// Its number (02, No. 2).
+impl From<Refusal> for u8 {
+    ghost from_gives = { λ refusal n. n ≡ number refusal };
+
+    fn from(refusal: Refusal) -> u8 {
+        match refusal {
+            Refusal::Memory => 1,
+            Refusal::Range => 3,
+            Refusal::Start => 6,
+            Refusal::Word => 24,
+            Refusal::Room => 23,
+            Refusal::Line(_) => 7,
+        }
+    }
 }
 
-// The numbers of an answer.
+impl Refusal {
+    // The line that it names, or 0.
+    pub fn line(self) -> u32
+        ensures { result ≡ line self }
+    {
+        match self {
+            Refusal::Line(line) => line,
+            _ => 0,
+        }
+    }
+}
+
+// The numbers of an answer: a refusal, or how many bytes the text has.
 #[tactic(auto, unfolding(crate::specs::Listing::numbered))]
-pub fn numbered(answer: Listed) -> ListingNumbers
+pub fn numbered(answer: Result<usize, Refusal>) -> ListingNumbers
     ensures { result ≡ numbered answer }
 {
     match answer {
-        Listed::Refused(number) => ListingNumbers {
-            refusal: number,
-            line: 0,
+        Err(refusal) => ListingNumbers {
+            refusal: u8::from(refusal),
+            line: refusal.line(),
             length: 0,
         },
-        Listed::Done(length) => ListingNumbers {
+        Ok(length) => ListingNumbers {
             refusal: 0,
             line: 0,
             length,
@@ -56,81 +89,87 @@ pub fn numbered(answer: Listed) -> ListingNumbers
     }
 }
 
-// The first refusal of 1, 3 and 6 that applies, or 0.
+// The first refusal of 1, 3 and 6 that applies, if one does. The range's numbers stand apart, here and in what calls it, as the C interface hands them over.
 #[tactic(auto, unfolding(crate::specs::Listing::refusal, words::specs::Words::pick))]
-pub fn refusal(words: usize, low: u16, high: u16, state: u8, mode: u8) -> u8
+pub fn accept(words: usize, low: u16, high: u16, state: u8, mode: u8) -> Result<(), Refusal>
     ensures { result ≡ refusal words low high state mode }
 {
     if words != 32768 {
-        1
+        Err(Refusal::Memory)
     } else if !loan::fair_range(low, high) {
-        3
+        Err(Refusal::Range)
     } else if (state <= 1) & (mode <= 7) {
-        0
+        Ok(())
     } else {
-        6
+        Err(Refusal::Start)
     }
 }
 
 fn line_length(address: u16, word: u16, shown: bool) -> usize
     ensures { result ≡ length (line_of address word shown) }
 {
-    let mut line = [0u8; LONGEST];
-    listed_lines::put_line(address, word, shown, &mut line, 0)
+    let mut line = [0; LONGEST];
+    let mut text = Text::new(&mut line);
+    listed_lines::put_line(address, word, shown, &mut text);
+    text.place
 }
 
-fn measure(memory: &[u16], low: u16, high: u16, from: Standing) -> Measured
+// How long the lines of a range are. A word above 4,095 is refused.
+fn measure(memory: &[u16], low: u16, high: u16, from: Standing) -> Result<usize, Refusal>
     requires { (low ≤ high) × (high ≤ length memory.now) }
     ensures { result ≡ measured low from (slice low high memory.now) }
 {
-    let mut good = true;
     let mut total: usize = 0;
     let mut standing = from;
-    let mut address = low;
-    while address < high {
+    for address in low..high {
         let word = memory[address as usize];
-        good = good & (word <= 4095);
+        if word > 4095 {
+            return Err(Refusal::Word);
+        }
         total += line_length(address, word, standing.shown());
         standing = standing.after(word);
-        address += 1;
     }
-    Measured {
-        good,
-        length: total,
-    }
+    Ok(total)
 }
 
-fn put_lines(memory: &[u16], low: u16, high: u16, from: Standing, text: &mut [u8]) -> usize
+fn put_lines(memory: &[u16], low: u16, high: u16, from: Standing, text: &mut Text)
     requires { (low ≤ high) × (high ≤ length memory.now) }
-    ensures { filled result text.new ≡ puts (lines_of low from (slice low high memory.now)) (filled 0 text.old) }
+    ensures { Adds text.old text.new (lines_of low from (slice low high memory.now)) }
 {
-    let mut place = 0;
     let mut standing = from;
-    let mut address = low;
-    while address < high {
+    for address in low..high {
         let word = memory[address as usize];
-        place = listed_lines::put_line(address, word, standing.shown(), text, place);
+        listed_lines::put_line(address, word, standing.shown(), text);
         standing = standing.after(word);
-        address += 1;
     }
-    place
 }
 
-// Lists the words of a range from a state and a mode on.
-pub fn list(memory: &[u16], low: u16, high: u16, state: u8, mode: u8, text: &mut [u8]) -> Listed
+// The lines of a range at the start of a list, and how far they fill it.
+fn fill(memory: &[u16], low: u16, high: u16, from: Standing, list: &mut [u8]) -> usize
+    requires { (low ≤ high) × (high ≤ length memory.now) }
+    ensures { filled result list.new ≡ puts (lines_of low from (slice low high memory.now)) (filled 0 list.old) }
+{
+    let mut text = Text::new(list);
+    put_lines(memory, low, high, from, &mut text);
+    text.place
+}
+
+// Lists the words of a range from a state and a mode on, and answers how many bytes the text has.
+pub fn list(
+    memory: &[u16],
+    low: u16,
+    high: u16,
+    state: u8,
+    mode: u8,
+    text: &mut [u8],
+) -> Result<usize, Refusal>
     ensures { leaves result text.new ≡ listed memory.now low high state mode text.old }
 {
-    let number = refusal(memory.len(), low, high, state, mode);
-    if number != 0 {
-        return Listed::Refused(number);
-    }
+    accept(memory.len(), low, high, state, mode)?;
     let from = Standing::starting(state, mode);
-    let m = measure(memory, low, high, from);
-    if !m.good {
-        return Listed::Refused(24);
+    let length = measure(memory, low, high, from)?;
+    if text.len() < length {
+        return Err(Refusal::Room);
     }
-    if text.len() < m.length {
-        return Listed::Refused(23);
-    }
-    Listed::Done(put_lines(memory, low, high, from, text))
+    Ok(fill(memory, low, high, from, text))
 }

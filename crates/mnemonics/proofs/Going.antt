@@ -10,9 +10,8 @@ use lib.Seq.{drop-cons, drop-length}
 use Rattle.words.specs.Words.{pick}
 use Rattle.text.specs.Text.{Filled, puts}
 use Rattle.text.proofs.Puts.{behind}
-use Rattle.mnemonics.specs.Mnemonics.{rows, letters, name, names_in, uncovered, rest_in}
-use Rattle.mnemonics.specs.RowAt.{row_at}
-use Rattle.mnemonics.proofs.Table.{rows_length}
+use Rattle.mnemonics.specs.declared.Row.{Row}
+use Rattle.mnemonics.specs.Mnemonics.{letters, name, names_in, uncovered, rest_in}
 
 letters_cons : (b : ℕ) (bs : List ℕ) → letters (b ∷ bs) ≡ letters (b ∷ []) ++ letters bs
 unfolding letters pick
@@ -34,29 +33,26 @@ pub letters_last : (l : List ℕ) (j : ℕ) (f : Filled) → j ≤ length l → 
 unfolding letters puts
 letters_last l j f h k = let e : j ≡ length l = omega arith in rw (e, drop-length l)
 
--- the rows from a place on begin with the row there
-from_row : (i : ℕ) → i < 55 → drop i rows ≡ row_at i ∷ drop (i + 1) rows
-from_row i h =
-    let s : i + 1 ≡ suc i = omega arith in rw s (drop-cons rows i _ (omega (arith, rows_length)))
+module _ (rows : List Row) (w i : ℕ) where
+  -- one name more, and none is left
+  pub names_next : (r none : Row) (f : Filled) {g : Filled} → i < length rows → r ≡ get_or rows i none → g ≡ puts (name w r) f →
+      puts (names_in (drop (i + 1) rows) w) g ≡ puts (names_in (drop i rows) w) f
+  unfolding names_in
+  names_next r none f h e p =
+      let s : i + 1 ≡ suc i = omega arith in
+      rw (s, drop-cons rows i none h, ← e) (behind (name w r) (names_in (drop (suc i) rows) w) f p refl)
 
-no_row : (i : ℕ) → 55 ≤ i → i ≤ 55 → drop i rows ≡ []
-no_row i h k = let e : i ≡ length rows = omega (arith, rows_length) in rw e (drop-length rows)
+  pub names_last : (f : Filled) → i ≤ length rows → length rows ≤ i → f ≡ puts (names_in (drop i rows) w) f
+  unfolding names_in puts
+  names_last f h k = let e : i ≡ length rows = omega arith in rw (e, drop-length rows)
 
--- one name more, and none is left
-pub names_next : (w i : ℕ) (f : Filled) {g : Filled} → i < 55 → g ≡ puts (name w (row_at i)) f →
-    puts (names_in (drop (i + 1) rows) w) g ≡ puts (names_in (drop i rows) w) f
-unfolding names_in
-names_next w i f h p = rw (from_row i h) (behind (name w (row_at i)) (names_in (drop (i + 1) rows) w) f p refl)
+  -- one row less that may cover bits, and none is left
+  pub rest_next : (r none : Row) (left : ℕ) → i < length rows → r ≡ get_or rows i none →
+      rest_in (drop (i + 1) rows) w (uncovered r w left) ≡ rest_in (drop i rows) w left
+  unfolding rest_in
+  rest_next r none left h e =
+      let s : i + 1 ≡ suc i = omega arith in rw (s, drop-cons rows i none h, ← e)
 
-pub names_last : (w i : ℕ) (f : Filled) → 55 ≤ i → i ≤ 55 → f ≡ puts (names_in (drop i rows) w) f
-unfolding names_in puts
-names_last w i f h k = rw (no_row i h k)
-
--- one row less that may cover bits, and none is left
-pub rest_next : (w i left : ℕ) → i < 55 → rest_in (drop (i + 1) rows) w (uncovered (row_at i).pattern w left) ≡ rest_in (drop i rows) w left
-unfolding rest_in
-rest_next w i left h = rw (from_row i h)
-
-pub rest_last : (w i left : ℕ) → 55 ≤ i → i ≤ 55 → left ≡ rest_in (drop i rows) w left
-unfolding rest_in
-rest_last w i left h k = rw (no_row i h k)
+  pub rest_last : (left : ℕ) → i ≤ length rows → length rows ≤ i → left ≡ rest_in (drop i rows) w left
+  unfolding rest_in
+  rest_last left h k = let e : i ≡ length rows = omega arith in rw (e, drop-length rows)

@@ -10,7 +10,8 @@ use borrow.Author.Tests.{eqb-true}
 use Rattle.words.proofs.Laws.{pick_case, both}
 use Rattle.words.proofs.Tables.{every}
 use Rattle.text.proofs.Puts.{length-octal}
-use Rattle.mnemonics.specs.Mnemonics.{Row, rows, applies, letters, name, names_in, rest, rest_field, mnemonics}
+use Rattle.mnemonics.specs.declared.Row.{Row}
+use Rattle.mnemonics.specs.Mnemonics.{rows, applies, letters, name, names_in, rest, rest_field, mnemonics}
 use Rattle.mnemonics.proofs.Table.{five, all_five, rows_length}
 
 length-letters : (l : List ℕ) → length (letters l) ≤ length l
@@ -25,7 +26,7 @@ unfolding name five
 length-name w r f =
     let h : length (letters r.name) ≤ length r.name = length-letters r.name in
     let e : length r.name ≡ 5 = eqb-true _ _ f in
-    pick_case (λ (t : List ℕ). length t ≤ 6) (applies r.pattern w) (λ _. omega arith) (λ _. omega arith)
+    pick_case (λ (t : List ℕ). length t ≤ 6) (applies r w) (λ _. omega arith) (λ _. omega arith)
 
 length-names : (rs : List Row) (w : ℕ) → every five rs ≡ true → length (names_in rs w) ≤ 6 * length rs
 unfolding names_in every

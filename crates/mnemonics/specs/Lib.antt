@@ -1,2 +1,1 @@
 pub mod Mnemonics
-pub mod RowAt

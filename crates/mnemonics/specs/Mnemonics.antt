@@ -4,7 +4,7 @@ use Prim.Native.String.{String}
 use Rattle.std.specs.Int.Bits.{bit_and}
 use Rattle.words.specs.Words.{bit, bits, weight, pick}
 use Rattle.text.specs.Text.{bytes, octal}
-use Rattle.mnemonics.specs.declared.Pattern.{Pattern}
+use Rattle.mnemonics.specs.declared.Row.{Row}
 
 -- THE KINDS OF CONTROL WORD (01, Control words): 0 to 5 are the op codes 0 to 5, then 60, 61, 62, 63, and in one the words 64 to 67 of slave tubes; 11 are
 -- the words of op code 7, which have no mnemonic
@@ -61,12 +61,8 @@ buttons = first_bank + second_bank
 -- at, the enable bit of a scale, pen, mode or intensity among them; and the kinds of word that it stands in. The 11 base names come first, then the modifiers
 -- by falling bit (02, No. 2)
 
-pub record Row : Type 0 where
-  pub name : List ℕ
-  pub pattern : Pattern
-
 abbrev row : String → ℕ → ℕ → ℕ → Row
-row name value mask kinds = record { name = bytes name; pattern = record { value = value; mask = mask; kinds = kinds } }
+row name value mask kinds = record { name = bytes name; value = value; mask = mask; kinds = kinds }
 
 unfoldable pub rows : List Row
 rows =
@@ -145,11 +141,11 @@ same (a ∷ more) (b ∷ bs) = nat_eq a b && same more bs
 
 -- a kind of word that both stand in
 abbrev pub meet : Row → Row → Bool
-meet r q = not (nat_eq (bit_and r.pattern.kinds q.pattern.kinds) 0)
+meet r q = not (nat_eq (bit_and r.kinds q.kinds) 0)
 
 -- no two rows are alike: not one name, and not one value in one kind of word
 unfoldable pub unlike : Row → Row → Bool
-unlike r q = not (same r.name q.name) && not (nat_eq r.pattern.value q.pattern.value && meet r q)
+unlike r q = not (same r.name q.name) && not (nat_eq r.value q.value && meet r q)
 
 abbrev pub Distinct : Type 0
 Distinct = each_pair unlike rows ≡ true
@@ -157,12 +153,12 @@ Distinct = each_pair unlike rows ≡ true
 -- some word has both: a kind in common, and no bit that both look at and want otherwise
 unfoldable pub together : Row → Row → Bool
 together r q =
-    let looked = bit_and r.pattern.mask q.pattern.mask in
-    meet r q && nat_eq (bit_and r.pattern.value looked) (bit_and q.pattern.value looked)
+    let looked = bit_and r.mask q.mask in
+    meet r q && nat_eq (bit_and r.value looked) (bit_and q.value looked)
 
 -- modifiers by falling bit: of two that some word has, the value without its op code falls from the first to the other
 unfoldable pub falls : Row → Row → Bool
-falls r q = not (together r q) || nat_lt (q.pattern.value % 512) (r.pattern.value % 512)
+falls r q = not (together r q) || nat_lt (q.value % 512) (r.value % 512)
 
 abbrev pub Falling : Type 0
 Falling = each_pair falls (drop 11 rows) ≡ true
@@ -170,8 +166,8 @@ Falling = each_pair falls (drop 11 rows) ≡ true
 -- WHAT STANDS ON THE LINE OF A CONTROL WORD
 
 -- the mnemonic of a row stands there if the word's kind is one of the row's and the bits looked at are those of its value
-unfoldable pub applies : Pattern → ℕ → Bool
-applies p w = bit p.kinds (kind w) && nat_eq (bit_and w p.mask) (bit_and p.value p.mask)
+unfoldable pub applies : Row → ℕ → Bool
+applies r w = bit r.kinds (kind w) && nat_eq (bit_and w r.mask) (bit_and r.value r.mask)
 
 -- a name without what fills it up: 32 is a space
 unfoldable pub letters : List ℕ → List ℕ
@@ -180,7 +176,7 @@ letters (byte ∷ bytes) = pick (nat_eq byte 32) (letters bytes) (byte ∷ lette
 
 -- one space, and the name of a row that stands there
 unfoldable pub name : ℕ → Row → List ℕ
-name w r = pick (applies r.pattern w) (32 ∷ letters r.name) []
+name w r = pick (applies r w) (32 ∷ letters r.name) []
 
 unfoldable pub names_in : List Row → ℕ → List ℕ
 names_in [] w = []
@@ -190,12 +186,12 @@ abbrev pub names : ℕ → List ℕ
 names w = names_in rows w
 
 -- a name that stands there covers the 1 bits of its value
-unfoldable pub uncovered : Pattern → ℕ → ℕ → ℕ
-uncovered p w left = pick (applies p w) (left - bit_and left p.value) left
+unfoldable pub uncovered : Row → ℕ → ℕ → ℕ
+uncovered r w left = pick (applies r w) (left - bit_and left r.value) left
 
 unfoldable pub rest_in : List Row → ℕ → ℕ → ℕ
 rest_in [] w left = left
-rest_in (r ∷ rs) w left = rest_in rs w (uncovered r.pattern w left)
+rest_in (r ∷ rs) w left = rest_in rs w (uncovered r w left)
 
 -- the bits that no name covers
 abbrev pub rest : ℕ → ℕ

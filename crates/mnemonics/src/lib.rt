@@ -1,99 +1,119 @@
-// The mnemonics of control words: the manual's table A3-3 as constants, and what they say of a word.
+// The mnemonics of control words: the manual's table A3-3 as a constant, and what they say of a word.
 #![tactic(auto)]
 
-ghost use Rattle.std.specs.Prelude.{◌≡◌, ◌+◌, ◌<◌, [], ◌∷◌};
-ghost use Rattle.text.specs.Text.{filled, puts};
+ghost use Rattle.std.specs.Prelude.{◌≡◌, [], ◌∷◌};
+ghost use Rattle.text.specs.Adds.{Adds};
 ghost use Rattle.mnemonics.specs.Mnemonics.{kind, applies, letters, name, names, uncovered, rest, rest_field, mnemonics, Distinct, Falling};
-ghost use Rattle.mnemonics.specs.RowAt.{row_at};
 
-// How many rows the table has.
-const ROWS: usize = 55;
+use text::Text;
 
-// A row in octal: the mnemonic's value, the bits of a word that are looked at, and the kinds of word that it stands in, four digits each.
-const TABLE: [u64; ROWS] = [
-    0o2000_0010_1000, // JUMP
-    0o2010_0010_1000, // PJMP
-    0o3000_0000_0400, // POP
-    0o4000_0000_0200, // SK1
-    0o5000_0000_0100, // SK2
-    0o6000_0000_0040, // SK3
-    0o6100_0000_0020, // SK4
-    0o6400_0300_0002, // SG0
-    0o6500_0300_0002, // SG1
-    0o6600_0300_0002, // SG2
-    0o6700_0300_0002, // SG3
-    0o0400_0700_5400, // SC1
-    0o0500_0700_5400, // SC2
-    0o0600_0700_5400, // SC4
-    0o0700_0700_5400, // SC8
-    0o0040_0060_5400, // LPOF
-    0o0060_0060_5400, // LPON
-    0o0010_0010_4000, // INT
-    0o1400_0400_2000, // STOP
-    0o1200_0200_2000, // CLDF
-    0o1100_0170_2000, // POINT
-    0o1110_0170_2000, // INCR
-    0o1120_0170_2000, // VEC
-    0o1130_0170_2000, // VECON
-    0o1140_0170_2000, // SVEC
-    0o1150_0170_2000, // CHAR
-    0o1160_0170_2000, // GRAPH
-    0o1004_0004_2000, // CSB
-    0o1002_0002_2000, // CCB
-    0o1001_0001_2000, // EDS
-    0o3010_0010_0400, // PNM
-    0o3004_0004_0400, // PNLS
-    0o3002_0002_0400, // PNI
-    0o3001_0001_0400, // PEDS
-    0o0400_0400_0300, // INV
-    0o0200_0200_0300, // CLAT
-    0o0100_0100_0300, // COAT
-    0o6240_0040_0010, // SKIP
-    0o6220_0020_0010, // SNSZ
-    0o6210_0010_0010, // SPB1
-    0o6204_0004_0010, // SPB2
-    0o6202_0002_0010, // SLPSI
-    0o6201_0001_0010, // CLPSI
-    0o6340_0060_0004, // SCUP
-    0o6360_0060_0004, // SCDN
-    0o6310_0014_0004, // INTUP
-    0o6314_0014_0004, // INTDN
-    0o6302_0002_0004, // BKON
-    0o6301_0001_0004, // BKOF
-    0o0040_0070_0002, // SU0
-    0o0060_0060_0002, // LP0
-    0o0050_0050_0002, // IT0
-    0o0004_0007_0002, // SU1
-    0o0006_0006_0002, // LP1
-    0o0005_0005_0002, // IT1
-];
-
-// The names in the table's order, each filled up with spaces to five bytes.
-const NAMES: [u8; 275] =
-    *b"JUMP PJMP POP  SK1  SK2  SK3  SK4  SG0  SG1  SG2  SG3  SC1  SC2  SC4  SC8  LPOF LPON INT  STOP CLDF POINTINCR VEC  VECONSVEC CHAR GRAPHCSB  CCB  EDS  PNM  PNLS PNI  PEDS INV  CLAT COAT SKIP SNSZ SPB1 SPB2 SLPSICLPSISCUP SCDN INTUPINTDNBKON BKOF SU0  LP0  IT0  SU1  LP1  IT1  ";
-
-// What a row says of a word's bits.
+// A name, filled up with spaces to five bytes; the mnemonic's value; the bits of a word that are looked at; and the kinds of word that it stands in.
 #[derive(Clone, Copy)]
-struct Pattern {
+struct Row {
+    name: [u8; 5],
     value: u16,
     mask: u16,
     kinds: u16,
 }
 
-#[tactic(auto, unfolding(crate::specs::Mnemonics::rows))]
-fn row_at(i: usize) -> Pattern
-    requires { i < 55 }
-    ensures { result ≡ (row_at i).pattern }
-{
-    let row = TABLE[i];
-    Pattern {
-        value: (row / 16777216 % 4096) as u16,
-        mask: (row / 4096 % 4096) as u16,
-        kinds: (row % 4096) as u16,
-    }
+// Sets of kinds of word, a bit for each kind: op code 0,
+const PARAMETERS: u16 = 0o4000;
+// 1,
+const MODES: u16 = 0o2000;
+// 2,
+const JUMPS: u16 = 0o1000;
+// 3,
+const POPS: u16 = 0o0400;
+// 4,
+const FIRST_BANK: u16 = 0o0200;
+// 5,
+const SECOND_BANK: u16 = 0o0100;
+// 60,
+const FIRST_COMPARE: u16 = 0o0040;
+// 61,
+const SECOND_COMPARE: u16 = 0o0020;
+// 62,
+const FLAGS: u16 = 0o0010;
+// 63,
+const COUNTS: u16 = 0o0004;
+// 64 to 67.
+const SLAVES: u16 = 0o0002;
+// Words that set scale and pen.
+const SETTINGS: u16 = PARAMETERS + JUMPS + POPS;
+// Words that skip on buttons and set them.
+const BUTTONS: u16 = FIRST_BANK + SECOND_BANK;
+
+// A row of the table on one line.
+macro_rules! row {
+    ($name:literal, $value:literal, $mask:literal, $kinds:ident) => {
+        Row {
+            name: *$name,
+            value: $value,
+            mask: $mask,
+            kinds: $kinds,
+        }
+    };
 }
 
-// The kind of a control word, from 0 to 11.
+const TABLE: [Row; 55] = [
+    row!(b"JUMP ", 0o2000, 0o0010, JUMPS),
+    row!(b"PJMP ", 0o2010, 0o0010, JUMPS),
+    row!(b"POP  ", 0o3000, 0o0000, POPS),
+    row!(b"SK1  ", 0o4000, 0o0000, FIRST_BANK),
+    row!(b"SK2  ", 0o5000, 0o0000, SECOND_BANK),
+    row!(b"SK3  ", 0o6000, 0o0000, FIRST_COMPARE),
+    row!(b"SK4  ", 0o6100, 0o0000, SECOND_COMPARE),
+    row!(b"SG0  ", 0o6400, 0o0300, SLAVES),
+    row!(b"SG1  ", 0o6500, 0o0300, SLAVES),
+    row!(b"SG2  ", 0o6600, 0o0300, SLAVES),
+    row!(b"SG3  ", 0o6700, 0o0300, SLAVES),
+    row!(b"SC1  ", 0o0400, 0o0700, SETTINGS),
+    row!(b"SC2  ", 0o0500, 0o0700, SETTINGS),
+    row!(b"SC4  ", 0o0600, 0o0700, SETTINGS),
+    row!(b"SC8  ", 0o0700, 0o0700, SETTINGS),
+    row!(b"LPOF ", 0o0040, 0o0060, SETTINGS),
+    row!(b"LPON ", 0o0060, 0o0060, SETTINGS),
+    row!(b"INT  ", 0o0010, 0o0010, PARAMETERS),
+    row!(b"STOP ", 0o1400, 0o0400, MODES),
+    row!(b"CLDF ", 0o1200, 0o0200, MODES),
+    row!(b"POINT", 0o1100, 0o0170, MODES),
+    row!(b"INCR ", 0o1110, 0o0170, MODES),
+    row!(b"VEC  ", 0o1120, 0o0170, MODES),
+    row!(b"VECON", 0o1130, 0o0170, MODES),
+    row!(b"SVEC ", 0o1140, 0o0170, MODES),
+    row!(b"CHAR ", 0o1150, 0o0170, MODES),
+    row!(b"GRAPH", 0o1160, 0o0170, MODES),
+    row!(b"CSB  ", 0o1004, 0o0004, MODES),
+    row!(b"CCB  ", 0o1002, 0o0002, MODES),
+    row!(b"EDS  ", 0o1001, 0o0001, MODES),
+    row!(b"PNM  ", 0o3010, 0o0010, POPS),
+    row!(b"PNLS ", 0o3004, 0o0004, POPS),
+    row!(b"PNI  ", 0o3002, 0o0002, POPS),
+    row!(b"PEDS ", 0o3001, 0o0001, POPS),
+    row!(b"INV  ", 0o0400, 0o0400, BUTTONS),
+    row!(b"CLAT ", 0o0200, 0o0200, BUTTONS),
+    row!(b"COAT ", 0o0100, 0o0100, BUTTONS),
+    row!(b"SKIP ", 0o6240, 0o0040, FLAGS),
+    row!(b"SNSZ ", 0o6220, 0o0020, FLAGS),
+    row!(b"SPB1 ", 0o6210, 0o0010, FLAGS),
+    row!(b"SPB2 ", 0o6204, 0o0004, FLAGS),
+    row!(b"SLPSI", 0o6202, 0o0002, FLAGS),
+    row!(b"CLPSI", 0o6201, 0o0001, FLAGS),
+    row!(b"SCUP ", 0o6340, 0o0060, COUNTS),
+    row!(b"SCDN ", 0o6360, 0o0060, COUNTS),
+    row!(b"INTUP", 0o6310, 0o0014, COUNTS),
+    row!(b"INTDN", 0o6314, 0o0014, COUNTS),
+    row!(b"BKON ", 0o6302, 0o0002, COUNTS),
+    row!(b"BKOF ", 0o6301, 0o0001, COUNTS),
+    row!(b"SU0  ", 0o0040, 0o0070, SLAVES),
+    row!(b"LP0  ", 0o0060, 0o0060, SLAVES),
+    row!(b"IT0  ", 0o0050, 0o0050, SLAVES),
+    row!(b"SU1  ", 0o0004, 0o0007, SLAVES),
+    row!(b"LP1  ", 0o0006, 0o0006, SLAVES),
+    row!(b"IT1  ", 0o0005, 0o0005, SLAVES),
+];
+
+// The kind of a control word, from 0 to 11. A number and no enum: it is the place of a bit in a row's kinds.
 #[tactic(auto, unfolding(crate::specs::Mnemonics::kind, words::specs::Words::pick))]
 fn kind(word: u16) -> u16
     ensures { result ≡ kind word }
@@ -113,71 +133,58 @@ fn kind(word: u16) -> u16
 
 // Whether a mnemonic stands on the line of a word.
 #[tactic(auto, unfolding(crate::specs::Mnemonics::applies))]
-fn applies(p: Pattern, word: u16) -> bool
-    ensures { result ≡ applies p word }
+fn applies(row: Row, word: u16) -> bool
+    ensures { result ≡ applies row word }
 {
-    words::bit(p.kinds, kind(word)) & ((word & p.mask) == (p.value & p.mask))
+    words::bit(row.kinds, kind(word)) & ((word & row.mask) == (row.value & row.mask))
 }
 
 // One byte of a name; spaces only fill it up.
 #[tactic(auto, unfolding(crate::specs::Mnemonics::letters, text::specs::Text::puts, words::specs::Words::pick))]
-fn put_letter(byte: u8, text: &mut [u8], place: usize) -> usize
-    ensures { filled result text.new ≡ puts (letters (byte ∷ [])) (filled place text.old) }
+fn put_letter(byte: u8, text: &mut Text)
+    ensures { Adds text.old text.new (letters (byte ∷ [])) }
 {
-    if byte == b' ' {
-        place
-    } else {
-        text::put(byte, text, place)
+    if byte != b' ' {
+        text.put(byte);
     }
 }
 
-// The name of a row.
-fn put_letters(i: usize, text: &mut [u8], place: usize) -> usize
-    requires { i < 55 }
-    ensures { filled result text.new ≡ puts (letters (row_at i).name) (filled place text.old) }
+// A name without what fills it up.
+fn put_letters(name: &[u8], text: &mut Text)
+    ensures { Adds text.old text.new (letters name.now) }
 {
-    let mut at = place;
-    let mut j = 0;
-    while j < 5 {
-        at = put_letter(NAMES[5 * i + j], text, at);
-        j += 1;
+    for letter in name {
+        put_letter(*letter, text);
     }
-    at
 }
 
 // A space and the name of a row, if it stands on the line.
-fn put_name(i: usize, word: u16, text: &mut [u8], place: usize) -> usize
-    requires { i < 55 }
-    ensures { filled result text.new ≡ puts (name word (row_at i)) (filled place text.old) }
+#[tactic(auto, using(text::proofs::Puts::adds_behind), unfolding(crate::specs::Mnemonics::name, text::specs::Text::puts, words::specs::Words::pick))]
+fn put_name(row: Row, word: u16, text: &mut Text)
+    ensures { Adds text.old text.new (name word row) }
 {
-    if applies(row_at(i), word) {
-        let spaced = text::put(b' ', text, place);
-        put_letters(i, text, spaced)
-    } else {
-        place
+    if applies(row, word) {
+        text.put(b' ');
+        put_letters(&row.name, text);
     }
 }
 
 // The names that stand on the line, in the table's order.
-fn put_names(word: u16, text: &mut [u8], place: usize) -> usize
-    ensures { filled result text.new ≡ puts (names word) (filled place text.old) }
+fn put_names(word: u16, text: &mut Text)
+    ensures { Adds text.old text.new (names word) }
 {
-    let mut at = place;
-    let mut i = 0;
-    while i < ROWS {
-        at = put_name(i, word, text, at);
-        i += 1;
+    for row in &TABLE {
+        put_name(*row, word, text);
     }
-    at
 }
 
 // What is left of a word's bits by a mnemonic that stands on its line.
 #[tactic(auto, unfolding(crate::specs::Mnemonics::uncovered, words::specs::Words::pick))]
-fn uncovered(p: Pattern, word: u16, left: u16) -> u16
-    ensures { result ≡ uncovered p word left }
+fn uncovered(row: Row, word: u16, left: u16) -> u16
+    ensures { result ≡ uncovered row word left }
 {
-    if applies(p, word) {
-        left - (left & p.value)
+    if applies(row, word) {
+        left - (left & row.value)
     } else {
         left
     }
@@ -188,41 +195,39 @@ pub fn rest(word: u16) -> u16
     ensures { result ≡ rest word }
 {
     let mut left = word;
-    let mut i = 0;
-    while i < ROWS {
-        left = uncovered(row_at(i), word, left);
-        i += 1;
+    for row in &TABLE {
+        left = uncovered(*row, word, left);
     }
     left
 }
 
 // A space and the rest in octal, unless it is 0.
-#[tactic(auto, unfolding(crate::specs::Mnemonics::rest_field, text::specs::Text::puts, words::specs::Words::pick))]
-fn put_rest(left: u16, text: &mut [u8], place: usize) -> usize
-    ensures { filled result text.new ≡ puts (rest_field left) (filled place text.old) }
+#[tactic(auto, using(text::proofs::Puts::adds_behind), unfolding(crate::specs::Mnemonics::rest_field, text::specs::Text::puts, words::specs::Words::pick))]
+fn put_rest(left: u16, text: &mut Text)
+    ensures { Adds text.old text.new (rest_field left) }
 {
-    if left == 0 {
-        place
-    } else {
-        let spaced = text::put(b' ', text, place);
-        text::put_octal(left, text, spaced)
+    if left != 0 {
+        text.put(b' ');
+        text.put_octal(left);
     }
 }
 
 // What a line says of a control word: its mnemonics and the rest.
-pub fn put_mnemonics(word: u16, text: &mut [u8], place: usize) -> usize
-    ensures { filled result text.new ≡ puts (mnemonics word) (filled place text.old) }
+pub fn put_mnemonics(word: u16, text: &mut Text)
+    ensures { Adds text.old text.new (mnemonics word) }
 {
-    let named = put_names(word, text, place);
-    put_rest(rest(word), text, named)
+    put_names(word, text);
+    put_rest(rest(word), text);
 }
 
 // No two rows are alike. It does nothing: its promise is the test of all rows, so that a check names it.
+#[tactic(auto, unfolding(text::specs::Text::bytes, crate::specs::Mnemonics::rows, crate::specs::Mnemonics::each_behind, crate::specs::Mnemonics::each_pair, crate::specs::Mnemonics::same, crate::specs::Mnemonics::unlike))]
 pub fn distinct()
     ensures { Distinct }
 {}
 
 // The modifiers of any word stand by falling bit, by a test of all rows.
+#[tactic(auto, unfolding(text::specs::Text::bytes, crate::specs::Mnemonics::rows, crate::specs::Mnemonics::each_behind, crate::specs::Mnemonics::each_pair, crate::specs::Mnemonics::together, crate::specs::Mnemonics::falls))]
 pub fn falling()
     ensures { Falling }
 {}

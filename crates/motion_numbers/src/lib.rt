@@ -9,6 +9,7 @@ ghost use Rattle.motion_numbers.specs.MotionNumbers.{line_numbers, bytes_numbers
 use addresses::DisplayAddress;
 use registers::{ByteMotion, CharacterMotion, LineMotion, Motion, Stage};
 
+// The places are numbers and no enum, because the C interface and the replay format have the row as an array and name them so.
 // How many numbers a row of registers has.
 pub const ROW: usize = 44;
 
@@ -56,6 +57,79 @@ pub const ROUTINE_KIND: usize = STAGE + 1;
 
 pub const ROUTINE_NEXT: usize = STAGE + 2;
 
+// The place that the numbers of a line or of bytes stand behind: the kind's or the stage's, and none behind these, so that all of them are in the row.
+#[derive(Clone, Copy)]
+struct Before {
+    place: usize,
+    ghost inside: { place ≤ STAGE },
+}
+
+const BEHIND_KIND: Before = Before { place: KIND };
+
+const BEHIND_STAGE: Before = Before { place: STAGE };
+
+impl Before {
+    // Whether the flags of a line are 0 or 1.
+    fn line_fits(self, row: [u16; ROW]) -> bool
+        ensures { result ≡ flags_fit row (line_flags self.place) }
+    {
+        (row[self.place + LINE_MINUS_Y] <= 1)
+            & (row[self.place + LINE_MINUS_X] <= 1)
+            & (row[self.place + LINE_LIT] <= 1)
+            & (row[self.place + LINE_ESCAPE] <= 1)
+    }
+
+    fn line_of(self, row: [u16; ROW]) -> LineMotion
+        ensures { result ≡ line_of row self.place }
+    {
+        LineMotion {
+            minusy: row[self.place + LINE_MINUS_Y] == 1,
+            minusx: row[self.place + LINE_MINUS_X] == 1,
+            magy: row[self.place + LINE_MAGNITUDE_Y],
+            magx: row[self.place + LINE_MAGNITUDE_X],
+            moves: row[self.place + LINE_MOVES],
+            done: row[self.place + LINE_DONE],
+            lit: row[self.place + LINE_LIT] == 1,
+            escape: row[self.place + LINE_ESCAPE] == 1,
+        }
+    }
+
+    fn bytes_of(self, row: [u16; ROW]) -> ByteMotion
+        ensures { result ≡ bytes_of row self.place }
+    {
+        ByteMotion {
+            word: row[self.place + BYTES_WORD],
+            right: row[self.place + BYTES_SIDE] == 1,
+            moves: row[self.place + BYTES_MOVES_LEFT],
+        }
+    }
+
+    // Lays the numbers of a line into a row, behind the number before them.
+    fn lay_line(self, lastword: DisplayAddress, l: LineMotion, row: &mut [u16; ROW])
+        ensures { row.new ≡ sets row.old (self.place + 1) (line_numbers lastword l) }
+    {
+        row[self.place + LINE_MINUS_Y] = l.minusy as u16;
+        row[self.place + LINE_MINUS_X] = l.minusx as u16;
+        row[self.place + LINE_MAGNITUDE_Y] = l.magy;
+        row[self.place + LINE_MAGNITUDE_X] = l.magx;
+        row[self.place + LINE_MOVES] = l.moves;
+        row[self.place + LINE_DONE] = l.done;
+        row[self.place + LINE_LIT] = l.lit as u16;
+        row[self.place + LINE_ESCAPE] = l.escape as u16;
+        row[self.place + LINE_LAST_WORD] = lastword.number();
+    }
+
+    // The same of bytes.
+    fn lay_bytes(self, lastword: DisplayAddress, t: ByteMotion, row: &mut [u16; ROW])
+        ensures { row.new ≡ sets row.old (self.place + 1) (bytes_numbers lastword t) }
+    {
+        row[self.place + BYTES_WORD] = t.word;
+        row[self.place + BYTES_SIDE] = t.right as u16;
+        row[self.place + BYTES_MOVES_LEFT] = t.moves;
+        row[self.place + BYTES_LAST_WORD] = lastword.number();
+    }
+}
+
 // How many numbers of a row a kind of motion uses, with its stage.
 #[tactic(auto, unfolding(crate::specs::MotionNumbers::used, crate::specs::MotionNumbers::used_at, words::specs::Words::pick))]
 pub fn used(kind: u16, stage: u16) -> usize
@@ -74,17 +148,6 @@ pub fn used(kind: u16, stage: u16) -> usize
     }
 }
 
-// Whether the flags of a line are 0 or 1.
-fn line_fits(row: [u16; ROW], before: usize) -> bool
-    requires { before ≤ STAGE }
-    ensures { result ≡ flags_fit row (line_flags before) }
-{
-    (row[before + LINE_MINUS_Y] <= 1)
-        & (row[before + LINE_MINUS_X] <= 1)
-        & (row[before + LINE_LIT] <= 1)
-        & (row[before + LINE_ESCAPE] <= 1)
-}
-
 // Whether the stage is one of the four, and the flags of that stage are 0 or 1.
 #[tactic(auto, unfolding(crate::specs::MotionNumbers::stage_fits, words::specs::Words::pick))]
 fn stage_fits(row: [u16; ROW]) -> bool
@@ -94,7 +157,7 @@ fn stage_fits(row: [u16; ROW]) -> bool
         0 => true,
         1 => row[ROUTINE_KIND] <= 1,
         2 => row[STAGE + BYTES_SIDE] <= 1,
-        3 => line_fits(row, STAGE),
+        3 => BEHIND_STAGE.line_fits(row),
         _ => false,
     }
 }
@@ -106,37 +169,10 @@ pub fn motion_fits(row: [u16; ROW]) -> bool
 {
     match row[KIND] {
         0 => true,
-        1 => line_fits(row, KIND),
+        1 => BEHIND_KIND.line_fits(row),
         2 => row[KIND + BYTES_SIDE] <= 1,
         3 => (row[CHARACTER_SIZE] <= 1) & (row[CHARACTER_SIDE] <= 1) & stage_fits(row),
         _ => false,
-    }
-}
-
-fn line_of(row: [u16; ROW], before: usize) -> LineMotion
-    requires { before ≤ STAGE }
-    ensures { result ≡ line_of row before }
-{
-    LineMotion {
-        minusy: row[before + LINE_MINUS_Y] == 1,
-        minusx: row[before + LINE_MINUS_X] == 1,
-        magy: row[before + LINE_MAGNITUDE_Y],
-        magx: row[before + LINE_MAGNITUDE_X],
-        moves: row[before + LINE_MOVES],
-        done: row[before + LINE_DONE],
-        lit: row[before + LINE_LIT] == 1,
-        escape: row[before + LINE_ESCAPE] == 1,
-    }
-}
-
-fn bytes_of(row: [u16; ROW], before: usize) -> ByteMotion
-    requires { before ≤ STAGE }
-    ensures { result ≡ bytes_of row before }
-{
-    ByteMotion {
-        word: row[before + BYTES_WORD],
-        right: row[before + BYTES_SIDE] == 1,
-        moves: row[before + BYTES_MOVES_LEFT],
     }
 }
 
@@ -152,11 +188,11 @@ fn stage_of(row: [u16; ROW]) -> Stage
         ),
         2 => Stage::Increments(
             DisplayAddress::given(row[STAGE + BYTES_LAST_WORD]),
-            bytes_of(row, STAGE),
+            BEHIND_STAGE.bytes_of(row),
         ),
         3 => Stage::Short(
             DisplayAddress::given(row[STAGE + LINE_LAST_WORD]),
-            line_of(row, STAGE),
+            BEHIND_STAGE.line_of(row),
         ),
         _ => Stage::Table,
     }
@@ -182,42 +218,15 @@ pub fn motion_of(row: [u16; ROW]) -> Motion
     match row[KIND] {
         1 => Motion::Line(
             DisplayAddress::given(row[KIND + LINE_LAST_WORD]),
-            line_of(row, KIND),
+            BEHIND_KIND.line_of(row),
         ),
         2 => Motion::Bytes(
             DisplayAddress::given(row[KIND + BYTES_LAST_WORD]),
-            bytes_of(row, KIND),
+            BEHIND_KIND.bytes_of(row),
         ),
         3 => Motion::Character(character_of(row)),
         _ => Motion::Nothing,
     }
-}
-
-// Lays the numbers of a line into a row, behind the number before them.
-fn lay_line(lastword: DisplayAddress, l: LineMotion, before: usize, row: &mut [u16; ROW])
-    requires { before ≤ STAGE }
-    ensures { row.new ≡ sets row.old (before + 1) (line_numbers lastword l) }
-{
-    row[before + LINE_MINUS_Y] = l.minusy as u16;
-    row[before + LINE_MINUS_X] = l.minusx as u16;
-    row[before + LINE_MAGNITUDE_Y] = l.magy;
-    row[before + LINE_MAGNITUDE_X] = l.magx;
-    row[before + LINE_MOVES] = l.moves;
-    row[before + LINE_DONE] = l.done;
-    row[before + LINE_LIT] = l.lit as u16;
-    row[before + LINE_ESCAPE] = l.escape as u16;
-    row[before + LINE_LAST_WORD] = lastword.number();
-}
-
-// The same of bytes.
-fn lay_bytes(lastword: DisplayAddress, t: ByteMotion, before: usize, row: &mut [u16; ROW])
-    requires { before ≤ STAGE }
-    ensures { row.new ≡ sets row.old (before + 1) (bytes_numbers lastword t) }
-{
-    row[before + BYTES_WORD] = t.word;
-    row[before + BYTES_SIDE] = t.right as u16;
-    row[before + BYTES_MOVES_LEFT] = t.moves;
-    row[before + BYTES_LAST_WORD] = lastword.number();
 }
 
 // Lays a stage and its numbers.
@@ -236,11 +245,11 @@ fn lay_stage(stage: Stage, row: &mut [u16; ROW])
         }
         Stage::Increments(from, t) => {
             row[STAGE] = 2;
-            lay_bytes(from, t, STAGE, row);
+            BEHIND_STAGE.lay_bytes(from, t, row);
         }
         Stage::Short(from, l) => {
             row[STAGE] = 3;
-            lay_line(from, l, STAGE, row);
+            BEHIND_STAGE.lay_line(from, l, row);
         }
     }
 }
@@ -256,11 +265,11 @@ pub fn lay(motion: Motion, row: &mut [u16; ROW])
         }
         Motion::Line(lastword, l) => {
             row[KIND] = 1;
-            lay_line(lastword, l, KIND, row);
+            BEHIND_KIND.lay_line(lastword, l, row);
         }
         Motion::Bytes(lastword, t) => {
             row[KIND] = 2;
-            lay_bytes(lastword, t, KIND, row);
+            BEHIND_KIND.lay_bytes(lastword, t, row);
         }
         Motion::Character(c) => {
             let stage = c.stage;

@@ -5,6 +5,7 @@ use mathlib.Core.Bool.{Bool, true, false, not, ◌&&◌, ◌||◌}
 use mathlib.Core.List.{List}
 use native.Mathlib.Omega.{arith}
 use lib.ListN.{length}
+use Rattle.std.specs.Prelude.{Option, Some}
 use Rattle.words.proofs.Laws.{pick_case}
 use Rattle.addresses.specs.declared.DisplayAddress.{DisplayAddress}
 use Rattle.paper.specs.declared.Reached.{Reached}
@@ -18,8 +19,6 @@ use Rattle.registers.specs.declared.Motion.{Motion}
 use Rattle.registers.specs.declared.Motion.TheVariants.{Bytes}
 use Rattle.registers.specs.declared.Registers.{Registers}
 use Rattle.registers.specs.Good.{Good}
-use Rattle.beam.specs.declared.Lit.{Lit}
-use Rattle.beam.specs.declared.Lit.TheVariants.{Point}
 use Rattle.beam.specs.DataWords.{field_x, field_y, beam_at, lit_at}
 use Rattle.moves.specs.declared.Move.{Move}
 use Rattle.moves.specs.declared.Moving.TheVariants.{Going}
@@ -142,7 +141,7 @@ module _ {n₀ : ℕ} {r₀ : Registers} {ps₀ : List ℕ} {place₀ : ℕ} {b 
     stops e = violates a.far fewer next_move_lem (tests ∙ rw e)
 
     -- any other, with what it lights
-    module _ (e : (nextx.violated || nexty.violated || v.escape) ≡ false) {lit : Lit} (el : lit ≡ lit_at b lastword (upperx + nextx.value) (uppery + nexty.value) v.asked false) where
+    module _ (e : (nextx.violated || nexty.violated || v.escape) ≡ false) {lit : Option ℕ} (el : lit ≡ lit_at b lastword (upperx + nextx.value) (uppery + nexty.value) v.asked false) where
       plainly : plain (beam_at b (upperx + lowx) (uppery + lowy)) v ≡ true
       plainly = tests ∙ rw e
 
@@ -150,7 +149,7 @@ module _ {n₀ : ℕ} {r₀ : Registers} {ps₀ : List ℕ} {place₀ : ℕ} {b 
       lights = rw (ap (λ (m : Move). m.lastword) moves ∙ told lastword t travel) el
 
       -- without room for its point it is not made
-      pub crammed : {value : ℕ} → lit ≡ Point value → length ps ≤ place → Shows
+      pub crammed : {value : ℕ} → lit ≡ Some value → length ps ≤ place → Shows
       crammed u f = fills a.far fewer next_move_lem plainly there_x there_y lights (rw u (omega arith))
 
       -- with room for it, it is made

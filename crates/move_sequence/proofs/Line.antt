@@ -10,7 +10,7 @@ use native.Mathlib.Numerals.{add-one}
 use native.Mathlib.Omega.{arith}
 use mir.Syntax.{w16, w32}
 use mir.Val.{Fits}
-use Rattle.std.specs.Prelude.{nat_eq, nat_lt, nat_le}
+use Rattle.std.specs.Prelude.{nat_eq, nat_lt, nat_le, Option, Some}
 use lib.ListN.{length}
 use borrow.Author.Tests.{ltb-true, ltb-false, lt-ltb, le-ltb, lt-leb}
 use Rattle.words.specs.Words.{pick}
@@ -29,8 +29,6 @@ use Rattle.registers.specs.declared.Motion.TheVariants.{Line}
 use Rattle.registers.specs.declared.Registers.{Registers}
 use Rattle.registers.specs.Good.{Good}
 use Rattle.registers.proofs.InRange.{line_bounds}
-use Rattle.beam.specs.declared.Lit.{Lit}
-use Rattle.beam.specs.declared.Lit.TheVariants.{Point}
 use Rattle.beam.specs.DataWords.{field_x, field_y, beam_at, lit_at}
 use Rattle.moves.specs.declared.Move.{Move}
 use Rattle.moves.specs.declared.Moving.TheVariants.{Going}
@@ -222,7 +220,7 @@ module _ {b : Base} {lastword : DisplayAddress} {l : LineMotion} {ps₀ : List �
     edge e = violates a.far some (next b lastword l done) (tests ∙ rw e)
 
     -- any other, with what it lights
-    module _ (e : (nextx.violated || nexty.violated) ≡ false) {lit : Lit} (el : lit ≡ lit_at b lastword (upperx + nextx.value) (uppery + nexty.value) l.lit false) where
+    module _ (e : (nextx.violated || nexty.violated) ≡ false) {lit : Option ℕ} (el : lit ≡ lit_at b lastword (upperx + nextx.value) (uppery + nexty.value) l.lit false) where
       plainly : plain (beam_at b (upperx + lowx) (uppery + lowy)) (line_from b lastword l done) ≡ true
       plainly = tests ∙ rw e
 
@@ -231,7 +229,7 @@ module _ {b : Base} {lastword : DisplayAddress} {l : LineMotion} {ps₀ : List �
       asked = el
 
       -- without room for its point it is not made
-      pub crammed : {value : ℕ} → lit ≡ Point value → length ps ≤ place → Shows
+      pub crammed : {value : ℕ} → lit ≡ Some value → length ps ≤ place → Shows
       crammed u f = fills a.far some (next b lastword l done) plainly there_x there_y asked (rw u (omega arith))
 
       -- with room for it, it is made

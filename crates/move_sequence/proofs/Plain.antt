@@ -5,7 +5,7 @@ use mathlib.Core.Path.{◌≡◌, ap, sym, ◌∙◌}
 use mathlib.Core.Bool.{Bool, true, false, not, ◌&&◌, ◌||◌, and-true, and-false, or-false}
 use mathlib.Core.List.{List}
 use native.Mathlib.Omega.{arith}
-use Rattle.std.specs.Prelude.{nat_le}
+use Rattle.std.specs.Prelude.{nat_le, Option, None, Some}
 use lib.ListN.{length, set}
 use lib.Seq.{sets, length-sets}
 use borrow.Author.Tests.{not-true, le-leb, lt-leb}
@@ -16,12 +16,9 @@ use Rattle.registers.specs.declared.Base.{Base}
 use Rattle.registers.specs.declared.Motion.{Motion}
 use Rattle.registers.specs.declared.Registers.{Registers}
 use Rattle.registers.specs.Good.{Good}
-use Rattle.beam.specs.declared.Lit.{Lit}
-use Rattle.beam.specs.declared.Lit.TheVariants.{Dark, Point}
 use Rattle.moves.specs.declared.Move.{Move}
 use Rattle.beam.specs.declared.Outcome.{Outcome}
 use Rattle.moves.specs.declared.Moving.TheVariants.{Going}
-use Rattle.beam.specs.declared.Stop.TheVariants.{None}
 use Rattle.beam.specs.DataWords.{beam_at, lit_at, points, arrived}
 use Rattle.moves.specs.DataWords.{next_move, moved_x, moved_y, displaced}
 use Rattle.moves.proofs.KeptCharacters.{displaced_good}
@@ -41,7 +38,7 @@ abbrev pub there : Base → Move → ℕ → ℕ → Outcome
 there b v x y = record { registers = at b x y v.motion; lit = lit_at b v.lastword x y v.asked false; stop = None }
 
 -- the point that it lights
-abbrev pub lights : Base → Move → Lit
+abbrev pub lights : Base → Move → Option ℕ
 lights b v = lit_at b v.lastword (moved_x b v).value (moved_y b v).value v.asked false
 
 -- what a plain move is, as facts
@@ -118,11 +115,11 @@ abbrev pub Shown : ℕ → Registers → List ℕ → ℕ → Base → ℕ → �
 Shown n₀ r₀ ps₀ place₀ b n x y m ps place = (t : Sequence) → t ≡ record { registers = at b x y m; place = place; left = n } → leaves t ps ≡ sequence n₀ r₀ ps₀ place₀
 
 -- what the code leaves of the point list and the next place in it: both as they were, or with one point more
-pub data Put (lit : Lit) (ps : List ℕ) (place : ℕ) (ps' : List ℕ) (place' : ℕ) : Type 0 where
-  none : lit ≡ Dark → ps' ≡ ps → place' ≡ place → Put lit ps place ps' place'
-  one : {value : ℕ} → lit ≡ Point value → place < length ps → ps' ≡ set ps place value → place' ≡ place + 1 → Put lit ps place ps' place'
+pub data Put (lit : Option ℕ) (ps : List ℕ) (place : ℕ) (ps' : List ℕ) (place' : ℕ) : Type 0 where
+  none : lit ≡ None → ps' ≡ ps → place' ≡ place → Put lit ps place ps' place'
+  one : {value : ℕ} → lit ≡ Some value → place < length ps → ps' ≡ set ps place value → place' ≡ place + 1 → Put lit ps place ps' place'
 
-put_at : (lit : Lit) (ps : List ℕ) (place : ℕ) (ps' : List ℕ) (place' : ℕ) → place ≤ length ps → Put lit ps place ps' place' →
+put_at : (lit : Option ℕ) (ps : List ℕ) (place : ℕ) (ps' : List ℕ) (place' : ℕ) → place ≤ length ps → Put lit ps place ps' place' →
     (place + length (points lit) ≤ length ps) × (ps' ≡ sets ps place (points lit)) × (place' ≡ place + length (points lit))
 put_at lit ps place ps' place' room (none u eps eplace) = rw u (omega arith, eps, omega arith)
 put_at lit ps place ps' place' room (one u less eps eplace) = rw u (omega arith, eps, omega arith)
@@ -145,7 +142,7 @@ module _ {n₀ : ℕ} {r₀ : Registers} {ps₀ : List ℕ} {place₀ : ℕ} {b 
 
     -- a plain move, with where the code arrives and what it lights
     module _ (p : plain (beam_at b x y) v ≡ true) {nextx nexty : Reached} (ex : moved_x (beam_at b x y) v ≡ nextx) (ey : moved_y (beam_at b x y) v ≡ nexty)
-        {lit : Lit} (el : lit ≡ lit_at b v.lastword nextx.value nexty.value v.asked false) where
+        {lit : Option ℕ} (el : lit ≡ lit_at b v.lastword nextx.value nexty.value v.asked false) where
       same_lit : lights (beam_at b x y) v ≡ lit
       unfolding lit_at
       same_lit = rw (ex, ey) (sym el)

@@ -10,7 +10,6 @@ ghost use Rattle.beam.specs.DataWords.{beam_at};
 ghost use Rattle.move_sequence.specs.PlainMoves.{sequence, leaves};
 
 use addresses::DisplayAddress;
-use beam::Lit;
 use registers::{Base, ByteMotion, LineMotion, Motion, Registers};
 
 // What a sequence leaves: the registers, the next place in the point list, and how many moves of its limit it did not make.
@@ -79,13 +78,12 @@ pub fn line_moves(
     let mut owedx = paper::owed(l.done, l.magx, l.moves);
     let mut owedy = paper::owed(l.done, l.magy, l.moves);
     let twice = 2 * (l.moves as u32);
-    let mut done = l.done;
     let mut place = from;
-    while done < last {
+    for done in l.done..last {
         let reachx = owedx + 2 * (l.magx as u32);
         let reachy = owedy + 2 * (l.magy as u32);
-        let travelx = words::pick_u8(twice <= reachx, distance, 0);
-        let travely = words::pick_u8(twice <= reachy, distance, 0);
+        let travelx = words::pick(twice <= reachx, distance, 0);
+        let travely = words::pick(twice <= reachy, distance, 0);
         let nextx = paper::wrapped(placesx, lowx, travelx, l.minusx);
         let nexty = paper::wrapped(placesy, lowy, travely, l.minusy);
         if nextx.violated | nexty.violated {
@@ -99,16 +97,11 @@ pub fn line_moves(
                 limit - ((done - l.done) as u32),
             );
         }
-        match beam::lit_at(
-            b,
-            lastword,
-            upperx + nextx.value,
-            uppery + nexty.value,
-            l.lit,
-            false,
-        ) {
-            Lit::Dark => {}
-            Lit::Point(value) => {
+        let x = upperx + nextx.value;
+        let y = uppery + nexty.value;
+        match beam::lit_at(b, lastword, x, y, l.lit, false) {
+            None => {}
+            Some(value) => {
                 if place < points.len() {
                     points[place] = value;
                     place += 1;
@@ -129,20 +122,20 @@ pub fn line_moves(
         lowy = nexty.value;
         owedx = left_over(reachx, twice);
         owedy = left_over(reachy, twice);
-        done += 1;
     }
-    let rest = Motion::Line(lastword, LineMotion { done, ..l });
+    let rest = Motion::Line(lastword, LineMotion { done: last, ..l });
     stays(
         b,
         upperx + lowx,
         uppery + lowy,
         rest,
         place,
-        limit - ((done - l.done) as u32),
+        limit - ((last - l.done) as u32),
     )
 }
 
-// The plain moves of increment bytes, at most `limit` of them.
+// The plain moves of increment bytes, at most `limit` of them. A loop of its own: one that took each move of either kind as a struct made as many instructions as a
+// turn for every beat (docs/PERFORMANCE.md).
 pub fn byte_moves(
     b: Base,
     lastword: DisplayAddress,
@@ -163,65 +156,53 @@ pub fn byte_moves(
     let uppery = b.y - lowy;
     let mut bytes = t;
     let mut place = from;
-    let mut left = limit;
-    while 0 < left {
+    for made in 0..limit {
         let m = moves::byte_move(lastword, bytes, distance);
-        let after = m.motion;
-        match after {
-            Motion::Bytes(_, next) => {
-                let nextx = paper::wrapped(placesx, lowx, m.travelx, m.minusx);
-                let nexty = paper::wrapped(placesy, lowy, m.travely, m.minusy);
-                if nextx.violated | nexty.violated | m.escape {
+        let Motion::Bytes(_, next) = m.motion else {
+            return stays(
+                b,
+                upperx + lowx,
+                uppery + lowy,
+                Motion::Bytes(lastword, bytes),
+                place,
+                limit - made,
+            );
+        };
+        let nextx = paper::wrapped(placesx, lowx, m.travelx, m.minusx);
+        let nexty = paper::wrapped(placesy, lowy, m.travely, m.minusy);
+        if nextx.violated | nexty.violated | m.escape {
+            return stays(
+                b,
+                upperx + lowx,
+                uppery + lowy,
+                Motion::Bytes(lastword, bytes),
+                place,
+                limit - made,
+            );
+        }
+        let x = upperx + nextx.value;
+        let y = uppery + nexty.value;
+        match beam::lit_at(b, lastword, x, y, m.asked, false) {
+            None => {}
+            Some(value) => {
+                if place < points.len() {
+                    points[place] = value;
+                    place += 1;
+                } else {
                     return stays(
                         b,
                         upperx + lowx,
                         uppery + lowy,
                         Motion::Bytes(lastword, bytes),
                         place,
-                        left,
+                        limit - made,
                     );
                 }
-                match beam::lit_at(
-                    b,
-                    lastword,
-                    upperx + nextx.value,
-                    uppery + nexty.value,
-                    m.asked,
-                    false,
-                ) {
-                    Lit::Dark => {}
-                    Lit::Point(value) => {
-                        if place < points.len() {
-                            points[place] = value;
-                            place += 1;
-                        } else {
-                            return stays(
-                                b,
-                                upperx + lowx,
-                                uppery + lowy,
-                                Motion::Bytes(lastword, bytes),
-                                place,
-                                left,
-                            );
-                        }
-                    }
-                }
-                lowx = nextx.value;
-                lowy = nexty.value;
-                bytes = next;
-                left -= 1;
-            }
-            _ => {
-                return stays(
-                    b,
-                    upperx + lowx,
-                    uppery + lowy,
-                    Motion::Bytes(lastword, bytes),
-                    place,
-                    left,
-                );
             }
         }
+        lowx = nextx.value;
+        lowy = nexty.value;
+        bytes = next;
     }
     stays(
         b,
@@ -229,6 +210,6 @@ pub fn byte_moves(
         uppery + lowy,
         Motion::Bytes(lastword, bytes),
         place,
-        left,
+        0,
     )
 }

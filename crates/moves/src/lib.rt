@@ -155,8 +155,8 @@ pub fn byte_move(lastword: DisplayAddress, t: ByteMotion, distance: u8) -> Move
     let escape = registers::escapes(byte);
     let motion = byte_next(lastword, t, escape);
     let direction = directed(byte);
-    let travelx = words::pick_u8(direction.left | direction.right, distance, 0);
-    let travely = words::pick_u8(direction.up | direction.down, distance, 0);
+    let travelx = words::pick(direction.left | direction.right, distance, 0);
+    let travely = words::pick(direction.up | direction.down, distance, 0);
     Move {
         motion,
         travelx,

@@ -6,12 +6,11 @@ use mathlib.Core.Bool.{Bool, true, false, ◌&&◌, ◌||◌}
 use mathlib.Core.List.{List, ◌++◌}
 use native.Mathlib.Nat.{mod-eq_of_lt}
 use native.Mathlib.Omega.{arith}
-use Rattle.std.specs.Prelude.{nat_le, nat_eq}
+use Rattle.std.specs.Prelude.{nat_le, nat_eq, None, Some}
 use lib.ListN.{length}
 use borrow.Author.Tests.{leb-true, eqb-true}
 use Rattle.words.specs.Words.{pick}
 use Rattle.words.proofs.Laws.{both}
-use Rattle.registers.specs.declared.Held.TheVariants.{Empty, Holds}
 use Rattle.registers.specs.Registers.{in_range}
 use Rattle.motion_numbers.specs.MotionNumbers.{ROW, KIND, at, on, tested, flags_fit, kept, motion_fits, motion_of, motion_row}
 use Rattle.motion_numbers.proofs.Rows.{Each, each, flags_kept, from}
@@ -26,7 +25,7 @@ narrow_kept n h = mod-eq_of_lt (omega (arith, leb-true n 255 h))
 
 -- a held word is written as the two numbers that it was read from
 held_kept : (t : Bool) (word : ℕ) → (t || nat_eq word 0) ≡ true →
-    (holds (pick t (Holds word) Empty) ≡ t) × (held_word (pick t (Holds word) Empty) ≡ word)
+    (holds (pick t (Some word) None) ≡ t) × (held_word (pick t (Some word) None) ≡ word)
 unfolding pick
 held_kept true word h = (refl, refl)
 held_kept false word h = (refl, sym (eqb-true word 0 h))

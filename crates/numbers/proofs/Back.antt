@@ -6,12 +6,10 @@ use mathlib.Core.Bool.{true, false, ◌||◌}
 use mathlib.Core.List.{List, ◌++◌}
 use native.Mathlib.Nat.{mod-eq_of_lt}
 use native.Mathlib.Omega.{arith}
-use Rattle.std.specs.Prelude.{nat_le, nat_eq}
+use Rattle.std.specs.Prelude.{nat_le, nat_eq, Option, None, Some}
 use borrow.Author.Tests.{le-leb}
 use Rattle.words.specs.Words.{pick}
 use Rattle.registers.specs.declared.Base.{Base}
-use Rattle.registers.specs.declared.Held.{Held}
-use Rattle.registers.specs.declared.Held.TheVariants.{Empty, Holds}
 use Rattle.registers.specs.declared.Motion.{Motion}
 use Rattle.registers.specs.declared.Registers.{Registers}
 use Rattle.registers.specs.Registers.{in_range, held_in_range, numbers_in_range, motion_in_range}
@@ -24,14 +22,14 @@ use Rattle.numbers.specs.Places.{flags}
 use Rattle.numbers.specs.Numbers.{fits, narrow_fit, held_fits, held_of, holds, held_word, base_of, fitted, registers_of, base_row, row_of}
 
 -- the held word reads back from its two numbers, which fit
-held_back : (h : Held) → pick (holds h) (Holds (held_word h)) Empty ≡ h
+held_back : (h : Option ℕ) → pick (holds h) (Some (held_word h)) None ≡ h
 unfolding pick
-held_back Empty = refl
-held_back (Holds word) = refl
+held_back None = refl
+held_back (Some word) = refl
 
-held_fit : (h : Held) → (holds h || nat_eq (held_word h) 0) ≡ true
-held_fit Empty = refl
-held_fit (Holds word) = refl
+held_fit : (h : Option ℕ) → (holds h || nat_eq (held_word h) 0) ≡ true
+held_fit None = refl
+held_fit (Some word) = refl
 
 -- what has 8 bits loses none
 module _ (n : ℕ) (h : n < 256) where

@@ -1,12 +1,10 @@
 -- Registers as a row of numbers, whose places are named in Places.antt; the motion's part of it is motion_numbers'. Which rows fit, the registers of a row, the row
 -- of registers, and what makes the row a faithful form. Assumes nothing.
-use Rattle.std.specs.Prelude.{ℕ, ◌%◌, Bool, true, false, ◌&&◌, ◌||◌, List, [], ◌∷◌, ◌++◌, ◌≡◌, nat_le, nat_eq, length}
+use Rattle.std.specs.Prelude.{ℕ, ◌%◌, Bool, true, false, ◌&&◌, ◌||◌, List, [], ◌∷◌, ◌++◌, ◌≡◌, nat_le, nat_eq, length, Option, None, Some}
 use mir.Val.{bool_byte}
 use Rattle.words.specs.Words.{pick}
 use Rattle.addresses.specs.Addresses.{address, pointer}
 use Rattle.registers.specs.declared.Base.{Base}
-use Rattle.registers.specs.declared.Held.{Held}
-use Rattle.registers.specs.declared.Held.TheVariants.{Empty, Holds}
 use Rattle.registers.specs.declared.Motion.TheVariants.{Nothing}
 use Rattle.registers.specs.declared.Registers.{Registers}
 use Rattle.registers.specs.Registers.{in_range, fresh_base}
@@ -36,8 +34,8 @@ fits row = flags_fit row flags && narrow_fit row && held_fits row && motion_fits
 -- THE REGISTERS OF A ROW
 
 -- the held word
-unfoldable pub held_of : List ℕ → Held
-held_of row = pick (on row HELD) (Holds (at row HELD_WORD)) Empty
+unfoldable pub held_of : List ℕ → Option ℕ
+held_of row = pick (on row HELD) (Some (at row HELD_WORD)) None
 
 -- what has 8 bits by its low ones, which is all that a row that fits has there
 abbrev pub base_of : List ℕ → Base
@@ -89,14 +87,14 @@ registers_of row = pick (fits row) (fitted row) unfit
 -- THE ROW OF REGISTERS
 
 -- whether a word is held
-abbrev pub holds : Held → Bool
-holds Empty = false
-holds (Holds word) = true
+abbrev pub holds : Option ℕ → Bool
+holds None = false
+holds (Some word) = true
 
 -- the held word, 0 where none is held
-abbrev pub held_word : Held → ℕ
-held_word Empty = 0
-held_word (Holds word) = word
+abbrev pub held_word : Option ℕ → ℕ
+held_word None = 0
+held_word (Some word) = word
 
 -- the numbers of the other registers
 abbrev pub base_row : Base → List ℕ

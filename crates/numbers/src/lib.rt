@@ -5,13 +5,12 @@
 ghost use Rattle.std.specs.Prelude.{◌≡◌};
 ghost use Rattle.addresses.specs.Addresses.{address, pointer};
 ghost use Rattle.registers.specs.With.{with_address, with_pointer, with_held};
-ghost use Rattle.registers.specs.declared.Held.TheVariants.{Empty};
 ghost use Rattle.motion_numbers.specs.MotionNumbers.{flags_fit};
 ghost use Rattle.numbers.specs.Places.{flags};
-ghost use Rattle.numbers.specs.Numbers.{narrow_fit, held_fits, fits, held_of, base_of, unfit, registers_of, holds, held_word, still_row, row_of, Faithful};
+ghost use Rattle.numbers.specs.Numbers.{narrow_fit, held_fits, fits, held_of, base_of, unfit, registers_of, still_row, row_of, Faithful};
 
 use addresses::{DisplayAddress, PushdownPointer};
-use registers::{Base, Held, Motion, Registers};
+use registers::{Base, Motion, Registers};
 
 // How many numbers a row has.
 pub const ROW: usize = motion_numbers::ROW;
@@ -84,7 +83,7 @@ pub const KIND: usize = motion_numbers::KIND;
 
 pub const STAGE: usize = motion_numbers::STAGE;
 
-// Whether each flag of the registers is 0 or 1.
+// Whether each flag of the registers is 0 or 1. A line for each and no list of places: `all` over a list is proved only with a law of lists and their tests.
 fn flags_fit(row: [u16; ROW]) -> bool
     ensures { result ≡ flags_fit row flags }
 {
@@ -136,18 +135,23 @@ pub fn fits(row: [u16; ROW]) -> bool
 
 // The held word of a row.
 #[tactic(auto, unfolding(crate::specs::Numbers::held_of, words::specs::Words::pick))]
-fn held_of(row: [u16; ROW]) -> Held
+fn held_of(row: [u16; ROW]) -> Option<u16>
     ensures { result ≡ held_of row }
 {
     if row[HELD] == 1 {
-        Held::Holds(row[HELD_WORD])
+        Some(row[HELD_WORD])
     } else {
-        Held::Empty
+        None
     }
 }
 
 // The registers other than the motion, with their two addresses and the held word.
-fn base_with(row: [u16; ROW], address: DisplayAddress, pointer: PushdownPointer, held: Held) -> Base
+fn base_with(
+    row: [u16; ROW],
+    address: DisplayAddress,
+    pointer: PushdownPointer,
+    held: Option<u16>,
+) -> Base
     ensures { result ≡ with_held (with_pointer (with_address (base_of row) address) pointer) held }
 {
     Base {
@@ -220,30 +224,10 @@ pub fn registers_of(row: [u16; ROW]) -> Registers
     }
 }
 
-// Whether a word is held.
-fn holds(h: Held) -> bool
-    ensures { result ≡ holds h }
-{
-    match h {
-        Held::Empty => false,
-        Held::Holds(_) => true,
-    }
-}
-
-// The held word, 0 where none is held.
-fn held_word(h: Held) -> u16
-    ensures { result ≡ held_word h }
-{
-    match h {
-        Held::Empty => 0,
-        Held::Holds(word) => word,
-    }
-}
-
 // The row of the registers but for the held word and the motion, and of none of these, with the numbers of the display address and the pushdown pointer. These
 // are read before: read here, they made the compiler keep the flags packed through the whole run.
 fn base_row(b: Base, display: u16, pushdown: u16) -> [u16; ROW]
-    ensures { result ≡ still_row (with_held (with_pointer (with_address b (address display)) (pointer pushdown)) Empty) }
+    ensures { result ≡ still_row (with_held (with_pointer (with_address b (address display)) (pointer pushdown)) None) }
 {
     let mut row = [0u16; ROW];
     row[ADDRESS] = display;
@@ -284,8 +268,8 @@ pub fn still_row(b: Base) -> [u16; ROW]
 {
     let held = b.held;
     let mut row = base_row(b, b.address.number(), b.pointer.number());
-    row[HELD] = holds(held) as u16;
-    row[HELD_WORD] = held_word(held);
+    row[HELD] = held.is_some() as u16;
+    row[HELD_WORD] = held.unwrap_or(0);
     row
 }
 

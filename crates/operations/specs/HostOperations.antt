@@ -1,12 +1,11 @@
 -- Section 'Host operations' of 01, with No. 6 of 02: what each of the operations 1 to 6 and 30 sets in the registers other than the motion, in that order;
 -- inputs' file of this name has the others. Which numbers and operands are taken, what is answered and what becomes of the motion is in host's. Assumes nothing.
-use Rattle.std.specs.Prelude.{ℕ, Bool, true, false, not, ◌&&◌, ◌||◌}
+use Rattle.std.specs.Prelude.{ℕ, Bool, true, false, not, ◌&&◌, ◌||◌, None}
 use Rattle.words.specs.Words.{bit, bits, pick}
 use Rattle.addresses.specs.declared.DisplayAddress.{DisplayAddress}
 use Rattle.addresses.specs.declared.PushdownPointer.{PushdownPointer}
 use Rattle.addresses.specs.Addresses.{break_field, address_in}
 use Rattle.registers.specs.declared.Base.{Base}
-use Rattle.registers.specs.declared.Held.TheVariants.{Empty}
 use Rattle.registers.specs.With.{with_conditions, with_address, with_pointer, with_mode, with_datastate, with_running, with_horizontal, with_vertical, with_pen, with_hold, with_request, with_internal, with_external, with_penflag, with_starting, with_upper, with_seven, with_held}
 
 -- the flags that stop are internal stop, external stop, the two edges and the pen (manual 1.1.9, a to d)
@@ -16,7 +15,7 @@ stops_off b = with_internal (with_external (with_vertical (with_horizontal (with
 -- 1 start: sets the address to it; clears mode, the flags that stop, request, hold; control state, running; "start and clear drop the held word" (02, No. 4)
 abbrev pub started : Base → DisplayAddress → Base
 started b a =
-    with_held (with_running (with_datastate (with_hold (with_request (stops_off (with_mode (with_address b a) 0)) false) false) false) true) Empty
+    with_held (with_running (with_datastate (with_hold (with_request (stops_off (with_mode (with_address b a) 0)) false) false) false) true) None
 
 -- 2 pointer
 abbrev pub pointed : Base → PushdownPointer → Base
@@ -40,7 +39,7 @@ resume b =
 unfoldable pub cleared : Base → Base
 cleared b =
     let emptied = with_mode (with_address (stops_off b) (address_in (break_field b.address) 0)) 0 in
-    with_held (with_running (with_datastate (with_hold (with_request emptied false) false) false) false) Empty
+    with_held (with_running (with_datastate (with_hold (with_request emptied false) false) false) false) None
 
 -- 6 stop request; none if stopped
 abbrev pub requested : Base → Base

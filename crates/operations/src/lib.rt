@@ -5,26 +5,26 @@ ghost use Rattle.std.specs.Prelude.{◌≡◌};
 ghost use Rattle.operations.specs.HostOperations.{stops_off, started, pointed, conditioned, resumed, resume, cleared, requested, generated};
 
 use addresses::{DisplayAddress, PushdownPointer};
-use registers::{Base, Held};
+use registers::Base;
 
 // The flags that stop the display off.
 fn stops_off(b: Base) -> Base
     ensures { result ≡ stops_off b }
 {
-    let mut next = b;
-    next.internal = false;
-    next.external = false;
-    next.vertical = false;
-    next.horizontal = false;
-    next.penflag = false;
-    next
+    Base {
+        internal: false,
+        external: false,
+        vertical: false,
+        horizontal: false,
+        penflag: false,
+        ..b
+    }
 }
 
 // 1: start at an address.
 pub fn started(b: Base, address: DisplayAddress) -> Base
     ensures { result ≡ started b address }
 {
-    let off = stops_off(b);
     Base {
         address,
         mode: 0,
@@ -32,8 +32,8 @@ pub fn started(b: Base, address: DisplayAddress) -> Base
         hold: false,
         datastate: false,
         running: true,
-        held: Held::Empty,
-        ..off
+        held: None,
+        ..stops_off(b)
     }
 }
 
@@ -41,29 +41,26 @@ pub fn started(b: Base, address: DisplayAddress) -> Base
 pub fn pointed(b: Base, pointer: PushdownPointer) -> Base
     ensures { result ≡ pointed b pointer }
 {
-    let mut next = b;
-    next.pointer = pointer;
-    next
+    Base { pointer, ..b }
 }
 
 // 3: set the initial-condition bits.
 pub fn conditioned(b: Base, conditions: u16) -> Base
     ensures { result ≡ conditioned b conditions }
 {
-    let mut next = b;
-    next.conditions = conditions;
-    next
+    Base { conditions, ..b }
 }
 
 // A stopped display runs again, with pen enable and hold as given.
 fn resumed(b: Base, pen: bool, hold: bool) -> Base
     ensures { result ≡ resumed b pen hold }
 {
-    let mut next = stops_off(b);
-    next.running = true;
-    next.pen = pen;
-    next.hold = hold;
-    next
+    Base {
+        running: true,
+        pen,
+        hold,
+        ..stops_off(b)
+    }
 }
 
 // 4: resume, if stopped.
@@ -86,28 +83,30 @@ pub fn cleared(b: Base) -> Base
     ensures { result ≡ cleared b }
 {
     let address = DisplayAddress::in_field(b.address.break_field(), 0);
-    let ready = started(b, address);
-    let mut next = ready;
-    next.running = false;
-    next
+    Base {
+        running: false,
+        ..started(b, address)
+    }
 }
 
 // 6: ask for an external stop; a stopped display takes no request.
 pub fn requested(b: Base) -> Base
     ensures { result ≡ requested b }
 {
-    let mut next = b;
-    next.request = b.request | b.running;
-    next
+    Base {
+        request: b.request | b.running,
+        ..b
+    }
 }
 
 // 30: set the character generator's case, code size and starting address register.
 pub fn generated(b: Base, word: u16) -> Base
     ensures { result ≡ generated b word }
 {
-    let mut next = b;
-    next.upper = words::bit(word, 3);
-    next.seven = words::bit(word, 4);
-    next.starting = words::bits(word, 6, 11) as u8;
-    next
+    Base {
+        upper: words::bit(word, 3),
+        seven: words::bit(word, 4),
+        starting: words::bits(word, 6, 11) as u8,
+        ..b
+    }
 }

@@ -4,6 +4,7 @@
 ghost use Rattle.std.specs.Prelude.{◌≡◌};
 ghost use Rattle.points.specs.Points.{point_x, point_y, point_intensity, point_blink, point_word, Apart};
 
+// The parts are five functions: one over a place and a width would put the layout into every caller.
 pub fn point_x(point: u64) -> u32
     ensures { result ≡ point_x point }
 {

@@ -1,36 +1,27 @@
 -- How the writing of points goes on, and how long what is written can be. Assumes nothing.
-use Prim.Native.Nat.{ℕ, zero, suc, ◌+◌, ◌*◌, ◌-◌, ◌≤◌, ◌<◌}
+use Prim.Native.Nat.{ℕ, zero, suc, ◌+◌, ◌*◌, ◌≤◌, ◌<◌}
 use mathlib.Core.Path.{◌≡◌, refl}
 use mathlib.Core.List.{List, [], ◌∷◌}
 use native.Mathlib.Omega.{arith}
-use lib.ListN.{length, get_or, drop, length-append}
-use lib.Seq.{drop-cons, drop-length}
+use lib.ListN.{length, length-append}
 use Rattle.text.specs.Text.{Filled, bytes, puts, octal_word, octal_address}
 use Rattle.points.specs.Points.{point_x, point_y, point_intensity, point_blink}
 use Rattle.text.proofs.Puts.{behind, length-decimal, length-number}
 use Rattle.printout.specs.Printout.{point_line, point_lines, ending_line, bad_line}
 
-lines_none : (n : ℕ) → point_lines n [] ≡ []
+-- one point's line more
+pub lines_next : (n : ℕ) (ps : List ℕ) (f : Filled) (p k : ℕ) (qs : List ℕ) {g : Filled} → ps ≡ p ∷ qs → k + 1 ≡ n → g ≡ puts (point_line p) f →
+    puts (point_lines k qs) g ≡ puts (point_lines n ps) f
 unfolding point_lines
-lines_none zero = refl
-lines_none (suc n) = refl
+lines_next n ps f p k qs q h e =
+    let s : n ≡ suc k = omega arith in rw (q, s) (behind (point_line p) (point_lines k qs) f e refl)
 
-module _ (n : ℕ) (ps : List ℕ) (i : ℕ) (f : Filled) where
-  pub lines_next : {g : Filled} → i < n → i < length ps → g ≡ puts (point_line (get_or ps i 0)) f →
-      puts (point_lines (n - (i + 1)) (drop (i + 1) ps)) g ≡ puts (point_lines (n - i) (drop i ps)) f
-  unfolding point_lines
-  lines_next h k p =
-      let e : n - i ≡ suc (n - (i + 1)) = omega arith in
-      let s : i + 1 ≡ suc i = omega arith in
-      rw (e, drop-cons ps i 0 k, s) (behind _ _ _ p refl)
-
-  pub lines_done : i ≤ n → n ≤ i → f ≡ puts (point_lines (n - i) (drop i ps)) f
-  unfolding point_lines puts
-  lines_done h k = let e : n - i ≡ 0 = omega arith in rw e
-
-  pub lines_over : i ≤ length ps → length ps ≤ i → f ≡ puts (point_lines (n - i) (drop i ps)) f
-  unfolding puts
-  lines_over h k = let e : i ≡ length ps = omega arith in rw (e, drop-length ps, lines_none)
+-- and none is left or counted
+pub lines_over : (n : ℕ) (ps : List ℕ) (f : Filled) → (0 < n → length ps ≡ 0) → f ≡ puts (point_lines n ps) f
+unfolding point_lines puts
+lines_over zero ps f h = refl
+lines_over (suc n) [] f h = refl
+lines_over (suc n) (p ∷ ps) f h = let e : suc (length ps) ≡ 0 = h (omega arith) in absurd (omega arith)
 
 -- 24 bytes for four numbers, and six for the address and its end
 length-point_line : (p : ℕ) → length (point_line p) ≤ 30

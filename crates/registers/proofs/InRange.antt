@@ -3,13 +3,11 @@ use Prim.Native.Nat.{ℕ, ◌≤◌}
 use mathlib.Core.Path.{◌≡◌, refl}
 use mathlib.Core.Bool.{Bool, true, false}
 use native.Mathlib.Omega.{arith}
-use Rattle.std.specs.Prelude.{nat_lt}
+use Rattle.std.specs.Prelude.{nat_lt, Option, None, Some}
 use borrow.Author.Tests.{ltb-true, ltb-false, lt-ltb, leb-true, le-leb, eqb-true, eq-eqb, not-true}
 use Rattle.words.specs.Words.{pick}
 use Rattle.words.proofs.Laws.{both}
 use Rattle.registers.specs.declared.Base.{Base}
-use Rattle.registers.specs.declared.Held.{Held}
-use Rattle.registers.specs.declared.Held.TheVariants.{Empty, Holds}
 use Rattle.registers.specs.declared.LineMotion.{LineMotion}
 use Rattle.registers.specs.declared.ByteMotion.{ByteMotion}
 use Rattle.registers.specs.declared.Stage.{Stage}
@@ -21,10 +19,10 @@ use Rattle.registers.specs.declared.Registers.{Registers}
 use Rattle.registers.specs.Registers.{larger, held_in_range, numbers_in_range, line_in_range, counts_in_range, bytes_in_range, stage_in_range, character_in_range, motion_in_range, in_range, fresh}
 use Rattle.registers.specs.Good.{GoodHeld, GoodBase, GoodLine, GoodCounts, GoodBytes, GoodStage, GoodCharacter, GoodMotion, Good}
 
-good_held : (h : Held) → held_in_range h ≡ true → GoodHeld h
+good_held : (h : Option ℕ) → held_in_range h ≡ true → GoodHeld h
 unfolding held_in_range
-good_held Empty q = tt
-good_held (Holds word) q = leb-true _ _ q
+good_held None q = tt
+good_held (Some word) q = leb-true _ _ q
 
 good_base : (b : Base) → numbers_in_range b ≡ true → GoodBase b
 unfolding numbers_in_range
@@ -112,10 +110,10 @@ good r h =
     let k = both _ _ h in
     record { base = good_base r.base k.0; motion = good_motion r.motion r.base.datastate r.base.mode k.1 }
 
-formed_held : (h : Held) → GoodHeld h → held_in_range h ≡ true
+formed_held : (h : Option ℕ) → GoodHeld h → held_in_range h ≡ true
 unfolding held_in_range
-formed_held Empty g = refl
-formed_held (Holds word) g = le-leb _ _ g
+formed_held None g = refl
+formed_held (Some word) g = le-leb _ _ g
 
 formed_base : (b : Base) → GoodBase b → numbers_in_range b ≡ true
 unfolding numbers_in_range

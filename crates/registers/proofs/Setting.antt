@@ -1,9 +1,9 @@
 -- Numbers and the held word in range with one of them set to another in range: one law a number, which every command and operation cites. Assumes nothing.
 use Prim.Native.Nat.{ℕ, ◌<◌}
-use Rattle.registers.specs.declared.Held.{Held}
+use Rattle.std.specs.Prelude.{Option}
 use Rattle.registers.specs.Good.{GoodHeld, GoodNumbers}
 
-module _ {a p u v m s i k c z : ℕ} {h : Held} (g : GoodNumbers a p u v m s i k c z h) where
+module _ {a p u v m s i k c z : ℕ} {h : Option ℕ} (g : GoodNumbers a p u v m s i k c z h) where
   pub address_set : {n : ℕ} → n < 32768 → GoodNumbers n p u v m s i k c z h
   address_set q =
       record { address = q; pointer = g.pointer; x = g.x; y = g.y; mode = g.mode; scale = g.scale; intensity = g.intensity; buttons = g.buttons; conditions = g.conditions; starting = g.starting; held = g.held }
@@ -44,6 +44,6 @@ module _ {a p u v m s i k c z : ℕ} {h : Held} (g : GoodNumbers a p u v m s i k
   starting_set q =
       record { address = g.address; pointer = g.pointer; x = g.x; y = g.y; mode = g.mode; scale = g.scale; intensity = g.intensity; buttons = g.buttons; conditions = g.conditions; starting = q; held = g.held }
 
-  pub held_set : {w : Held} → GoodHeld w → GoodNumbers a p u v m s i k c z w
+  pub held_set : {w : Option ℕ} → GoodHeld w → GoodNumbers a p u v m s i k c z w
   held_set q =
       record { address = g.address; pointer = g.pointer; x = g.x; y = g.y; mode = g.mode; scale = g.scale; intensity = g.intensity; buttons = g.buttons; conditions = g.conditions; starting = g.starting; held = q }

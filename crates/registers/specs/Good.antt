@@ -1,9 +1,7 @@
 -- No reader has to believe this file: it says the test of refusal 4 (Registers.antt) once more as facts, which proofs take apart and put together again.
 -- That test and facts are the same is proved in proofs/InRange.antt. Assumes nothing.
-use Rattle.std.specs.Prelude.{ℕ, ◌<◌, ◌≤◌, Bool, true, false, ◌&&◌, ◌≡◌}
+use Rattle.std.specs.Prelude.{ℕ, ◌<◌, ◌≤◌, Bool, true, false, ◌&&◌, ◌≡◌, Option, None, Some}
 use Rattle.registers.specs.declared.Base.{Base}
-use Rattle.registers.specs.declared.Held.{Held}
-use Rattle.registers.specs.declared.Held.TheVariants.{Empty, Holds}
 use Rattle.registers.specs.declared.LineMotion.{LineMotion}
 use Rattle.registers.specs.declared.ByteMotion.{ByteMotion}
 use Rattle.registers.specs.declared.Stage.{Stage}
@@ -14,12 +12,12 @@ use Rattle.registers.specs.declared.Motion.TheVariants.{Nothing, Line, Bytes, Ch
 use Rattle.registers.specs.declared.Registers.{Registers}
 use Rattle.registers.specs.Registers.{larger, byte_at, moves_asked, escapes}
 
-abbrev pub GoodHeld : Held → Type 0
-GoodHeld Empty = Unit {0}
-GoodHeld (Holds word) = word ≤ 4095
+abbrev pub GoodHeld : Option ℕ → Type 0
+GoodHeld None = Unit {0}
+GoodHeld (Some word) = word ≤ 4095
 
 -- over the numbers and the held word themselves, so that what changes none of them keeps the fact as it is
-pub record GoodNumbers (a p u v m s i k c z : ℕ) (h : Held) : Type 0 where
+pub record GoodNumbers (a p u v m s i k c z : ℕ) (h : Option ℕ) : Type 0 where
   pub address : a < 32768
   pub pointer : p < 4096
   pub x : u < 8192

@@ -1,12 +1,10 @@
 -- Section 'Registers' of 01, with Nos. 4, 5 and 6 of 02: which registers are in range (the others get refusal 4), and the fresh ones. Assumes nothing.
-use Rattle.std.specs.Prelude.{ℕ, ◌/◌, ◌%◌, Bool, true, false, not, ◌&&◌, nat_lt, nat_le, nat_eq}
+use Rattle.std.specs.Prelude.{ℕ, ◌/◌, ◌%◌, Bool, true, false, not, ◌&&◌, nat_lt, nat_le, nat_eq, Option, None, Some}
 use Rattle.words.specs.Words.{pick, bits}
 use Rattle.addresses.specs.Addresses.{address, pointer}
 use Rattle.registers.specs.declared.Base.{Base}
 use Rattle.registers.specs.declared.LineMotion.{LineMotion}
 use Rattle.registers.specs.declared.ByteMotion.{ByteMotion}
-use Rattle.registers.specs.declared.Held.{Held}
-use Rattle.registers.specs.declared.Held.TheVariants.{Empty, Holds}
 use Rattle.registers.specs.declared.Stage.{Stage}
 use Rattle.registers.specs.declared.Stage.TheVariants.{Table, Routine, Increments, Short}
 use Rattle.registers.specs.declared.CharacterMotion.{CharacterMotion}
@@ -31,9 +29,9 @@ unfoldable pub escapes : ℕ → Bool
 escapes byte = nat_eq (byte / 8 % 4) 0
 
 -- "a held word above 4,095 is refusal 4" (02, No. 4)
-unfoldable pub held_in_range : Held → Bool
-held_in_range Empty = true
-held_in_range (Holds word) = nat_le word 4095
+unfoldable pub held_in_range : Option ℕ → Bool
+held_in_range None = true
+held_in_range (Some word) = nat_le word 4095
 
 -- a 15-bit display address, a 12-bit pushdown pointer, 13-bit x and y, mode 0 to 7, scale 0 to 3, intensity 0 to 7, 12 buttons, 12 condition bits, the six bits of
 -- the starting address register (02, No. 6), the held word
@@ -124,7 +122,7 @@ fresh_base =
       manual = false;
       upper = false;
       seven = false;
-      held = Empty;
+      held = None;
     }
 
 abbrev pub fresh : Registers

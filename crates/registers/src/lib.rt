@@ -57,13 +57,6 @@ pub enum Motion {
     Character(CharacterMotion),
 }
 
-// The word that an external stop holds for the next command beat.
-#[derive(Clone, Copy)]
-pub enum Held {
-    Empty,
-    Holds(u16),
-}
-
 // Every register but the motion. The wide fields first: a struct is laid out in this order, which was counted (docs/PERFORMANCE.md).
 #[derive(Clone, Copy)]
 pub struct Base {
@@ -107,7 +100,8 @@ pub struct Base {
     // The character generator's case, and its code size: seven bits, or six where it is off.
     pub upper: bool,
     pub seven: bool,
-    pub held: Held,
+    // The word that an external stop holds for the next command beat.
+    pub held: Option<u16>,
 }
 
 #[derive(Clone, Copy)]
@@ -117,11 +111,10 @@ pub struct Registers {
 }
 
 // The larger of two magnitudes: a line's number of moves.
-#[tactic(auto, unfolding(crate::specs::Registers::larger))]
 pub fn larger(one: u16, other: u16) -> u16
     ensures { result ≡ larger one other }
 {
-    words::pick_u16(one < other, other, one)
+    one.max(other)
 }
 
 // The left or the right byte of an increment word.
@@ -129,7 +122,7 @@ pub fn larger(one: u16, other: u16) -> u16
 pub fn byte_at(word: u16, right: bool) -> u16
     ensures { result ≡ byte_at word right }
 {
-    words::pick_u16(right, words::bits(word, 6, 11), words::bits(word, 0, 5))
+    words::pick(right, words::bits(word, 6, 11), words::bits(word, 0, 5))
 }
 
 // How many moves a byte asks.
@@ -138,7 +131,7 @@ pub fn moves_asked(byte: u16) -> u16
     ensures { result ≡ moves_asked byte }
 {
     let moves = byte / 8 % 4;
-    words::pick_u16(moves == 0, 1, moves)
+    words::pick(moves == 0, 1, moves)
 }
 
 // Whether a byte escapes.
@@ -150,12 +143,12 @@ pub fn escapes(byte: u16) -> bool
 }
 
 #[tactic(auto, unfolding(crate::specs::Registers::held_in_range))]
-fn held_in_range(h: Held) -> bool
+fn held_in_range(h: Option<u16>) -> bool
     ensures { result ≡ held_in_range h }
 {
     match h {
-        Held::Empty => true,
-        Held::Holds(word) => word <= 4095,
+        None => true,
+        Some(word) => word <= 4095,
     }
 }
 
@@ -283,7 +276,7 @@ pub fn fresh() -> Registers
         manual: false,
         upper: false,
         seven: false,
-        held: Held::Empty,
+        held: None,
     };
     Registers {
         base,

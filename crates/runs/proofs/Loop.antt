@@ -8,6 +8,7 @@ use native.Mathlib.Nat.{sub-zero, zero-add, add-zero}
 use native.Mathlib.Omega.{arith}
 use mir.Syntax.{w32}
 use mir.Val.{Fits}
+use Rattle.std.specs.Prelude.{Option, None, Some, Result, Ok}
 use Rattle.registers.specs.declared.Registers.{Registers}
 use Rattle.registers.specs.Good.{Good}
 use Rattle.loan.specs.declared.Loan.{Loan}
@@ -17,13 +18,12 @@ use Rattle.touches.specs.declared.Why.{Why}
 use Rattle.touches.specs.declared.Turn.{Turn as Told}
 use Rattle.touches.specs.Said.{said}
 use Rattle.touches.specs.Touches.{Fails, Rests, Does, store}
+use Rattle.beam.specs.declared.Stop.{Stop}
 use Rattle.beam.specs.DataWords.{points}
 use Rattle.turns.specs.OneTurn.{turn}
 use Rattle.turns.proofs.Fine.{Fine, turn_fine}
 use Rattle.endings.specs.declared.Ending.{Ending}
 use Rattle.endings.specs.declared.Ending.TheVariants.{BudgetSpent, Failed}
-use Rattle.endings.specs.declared.Halt.{Halt}
-use Rattle.endings.specs.declared.Halt.TheVariants.{Goes, Ends}
 use Rattle.runs.specs.declared.Answer.TheVariants.{Ended}
 use Rattle.runs.specs.declared.Ran.{Ran}
 use Rattle.endings.specs.Endings.{halted, rested, rest_ending}
@@ -52,14 +52,16 @@ pub record Within (l : Loan) (m₀ ps₀ : List ℕ) (k : ℕ) (r₀ : Registers
   pub far : Far l m₀ ps₀ k r₀ m ps r b n (run (k - b) l (length ps₀ - n) r m)
   pub some : b < k
 
--- a beat that it made: m', ps' and n' are what store and put left, and h is what its stop comes to
+-- a beat that it made: r' is what it left of the registers, m', ps' and n' are what store and put left, and h is what its stop comes to
 pub record Beaten {l : Loan} {m₀ ps₀ : List ℕ} {k : ℕ} {r₀ : Registers} {m ps : List ℕ} {r : Registers} {b n : ℕ}
-    (w : Within l m₀ ps₀ k r₀ m ps r b n) (c : Act) (m' ps' : List ℕ) (n' : ℕ) (h : Halt) : Type 0 where
-  pub turned : turn l (length ps₀ - n) r m ≡ Does c
-  pub stored : m' ≡ store c.stores m
-  pub drawn : ps' ≡ sets ps n (points c.lit)
-  pub place : n' ≡ n + length (points c.lit)
-  pub halt : h ≡ halted c.stop
+    (w : Within l m₀ ps₀ k r₀ m ps r b n) (r' : Registers) (m' ps' : List ℕ) (n' : ℕ) (h : Option Ending) : Type 0 where
+  pub act : Act
+  pub turned : turn l (length ps₀ - n) r m ≡ Does act
+  pub registers : r' ≡ act.registers
+  pub stored : m' ≡ store act.stores m
+  pub drawn : ps' ≡ sets ps n (points act.lit)
+  pub place : n' ≡ n + length (points act.lit)
+  pub halt : h ≡ halted act.stop
 
 -- the points so far, with those of one beat more
 drawn_more : (lit ps₀ ps : List ℕ) (n : ℕ) → length lit ≡ n → n + length ps ≤ length ps₀ →
@@ -126,8 +128,11 @@ module _ {l : Loan} {m₀ ps₀ : List ℕ} {k : ℕ} {r₀ : Registers} {m ps :
     one = let e : k - b ≡ suc (k - (b + 1)) = omega (arith, w.some) in rw e
 
     -- what the code made of the turn is the definition's
-    pub turn_told : (t : Told) → said t ≡ turn l (length ps - n) r m → turn l (length ps₀ - n) r m ≡ said t
-    turn_told t e = rw (← length-drawn w.far) (sym e)
+    pub turn_told : {t : Result Told Why} → said t ≡ turn l (length ps - n) r m → {u : Result Told Why} → t ≡ u → turn l (length ps₀ - n) r m ≡ said u
+    turn_told e q = rw (← length-drawn w.far) (sym e ∙ ap said q)
+
+    pub turn_made : {t : Result Told Why} → said t ≡ turn l (length ps - n) r m → {u v : Told} → t ≡ Ok u → u ≡ v → turn l (length ps₀ - n) r m ≡ said (Ok v)
+    turn_made e q q' = turn_told e (q ∙ ap (λ (u : Told). Ok u) q')
 
     pub fails : {why : Why} → turn l (length ps₀ - n) r m ≡ Fails why → Far l m₀ ps₀ k r₀ m ps r b n (ended r m (Failed why))
     fails q = rw (one, q) at w.far
@@ -169,11 +174,17 @@ module _ {l : Loan} {m₀ ps₀ : List ℕ} {k : ℕ} {r₀ : Registers} {m ps :
           whole = w.far.whole ∙ ap (after w.far.lit b) (one ∙ rw q) ∙ after_made w.far.lit (points c.lit) b _;
         }
 
-  module _ {w : Within l m₀ ps₀ k r₀ m ps r b n} {c : Act} {m' ps' : List ℕ} {n' : ℕ} {h : Halt} (d : Beaten w c m' ps' n' h) where
-    pub goes : h ≡ Goes → Far l m₀ ps₀ k r₀ m' ps' c.registers (b + 1) n' (run (k - (b + 1)) l (length ps₀ - n') c.registers m')
-    goes e =
-        let room : length ps₀ - n - length (points c.lit) ≡ length ps₀ - (n + length (points c.lit)) = omega arith in
-        rw (d.stored, d.drawn, d.place) (rw (sym d.halt ∙ e, room) at (beaten w d.turned))
+  pub beats : {w : Within l m₀ ps₀ k r₀ m ps r b n} {r' : Registers} {m' ps' : List ℕ} {n' : ℕ} {h : Option Ending} {stop : Option Stop} →
+      h ≡ halted stop → (c : Act) → turn l (length ps₀ - n) r m ≡ Does c → r' ≡ c.registers → m' ≡ store c.stores m →
+      (n' ≡ n + length (points c.lit)) × (ps' ≡ sets ps n (points c.lit)) → stop ≡ c.stop → Beaten w r' m' ps' n' h
+  beats halts c turned e stored put q =
+      record { act = c; turned = turned; registers = e; stored = stored; drawn = put.1; place = put.0; halt = halts ∙ ap halted q }
 
-    pub stops : {ending : Ending} → h ≡ Ends ending → Far l m₀ ps₀ k r₀ m' ps' c.registers (b + 1) n' (ended c.registers m' ending)
-    stops e = rw (d.stored, d.drawn, d.place) (rw (sym d.halt ∙ e) at (beaten w d.turned))
+  module _ {w : Within l m₀ ps₀ k r₀ m ps r b n} {r' : Registers} {m' ps' : List ℕ} {n' : ℕ} {h : Option Ending} (d : Beaten w r' m' ps' n' h) where
+    pub goes : h ≡ None → Far l m₀ ps₀ k r₀ m' ps' r' (b + 1) n' (run (k - (b + 1)) l (length ps₀ - n') r' m')
+    goes e =
+        let room : length ps₀ - n - length (points d.act.lit) ≡ length ps₀ - (n + length (points d.act.lit)) = omega arith in
+        rw (d.registers, d.stored, d.drawn, d.place) (rw (sym d.halt ∙ e, room) at (beaten w d.turned))
+
+    pub stops : {ending : Ending} → h ≡ Some ending → Far l m₀ ps₀ k r₀ m' ps' r' (b + 1) n' (ended r' m' ending)
+    stops e = rw (d.registers, d.stored, d.drawn, d.place) (rw (sym d.halt ∙ e) at (beaten w d.turned))

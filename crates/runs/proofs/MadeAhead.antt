@@ -5,7 +5,7 @@ use mathlib.Core.Path.{◌≡◌, refl, sym, ap, ◌∙◌, subst}
 use mathlib.Core.Bool.{Bool, true, false, ◌&&◌, ◌||◌}
 use mathlib.Core.List.{List}
 use lib.Dec.{leb-zero}
-use Rattle.std.specs.Prelude.{nat_eq, nat_le}
+use Rattle.std.specs.Prelude.{nat_eq, nat_le, Option, None, Some}
 use lib.ListN.{length}
 use lib.Seq.{sets}
 use native.Mathlib.Omega.{arith}
@@ -16,8 +16,6 @@ use Rattle.registers.specs.declared.Base.{Base}
 use Rattle.registers.specs.declared.Motion.{Motion}
 use Rattle.registers.specs.declared.Motion.TheVariants.{Nothing, Line, Bytes, Character}
 use Rattle.registers.specs.declared.Registers.{Registers}
-use Rattle.beam.specs.declared.Lit.{Lit}
-use Rattle.beam.specs.declared.Lit.TheVariants.{Dark}
 use Rattle.moves.specs.declared.Move.{Move}
 use Rattle.beam.specs.declared.Outcome.{Outcome}
 use Rattle.moves.specs.declared.Moving.{Moving}
@@ -36,8 +34,6 @@ use Rattle.turns.proofs.Walk.{walk_idle}
 use Rattle.turns.specs.Drawing.{Drawing}
 use Rattle.endings.specs.declared.Ending.{Ending}
 use Rattle.endings.specs.declared.Ending.TheVariants.{Failed}
-use Rattle.endings.specs.declared.Halt.{Halt}
-use Rattle.endings.specs.declared.Halt.TheVariants.{Goes, Ends}
 use Rattle.endings.specs.Endings.{halted}
 use Rattle.control_sequence.specs.Sequence.{next_word, ObeyedLeft, follow, on_turn, obey}
 use Rattle.control_sequence.proofs.Bare.{Bare, next_bare, reached}
@@ -99,9 +95,9 @@ words_left (suc k) l b m =
     by ih (Rests resting) = omega arith
     by ih (Does c) = on (ih c.registers.base (store c.stores m)) (halted c.stop)
       where
-        on : (obey k l c.registers.base (store c.stores m)).obeyed.left ≤ k → (x : Halt) → (follow (obey k l) k m c x).obeyed.left ≤ suc k
-        on h Goes = omega arith
-        on h (Ends ending) = omega arith
+        on : (obey k l c.registers.base (store c.stores m)).obeyed.left ≤ k → (x : Option Ending) → (follow (obey k l) k m c x).obeyed.left ≤ suc k
+        on h None = omega arith
+        on h (Some ending) = omega arith
 
 module _ (l : Loan) (m₀ ps₀ : List ℕ) (k : ℕ) (r₀ : Registers) where
   -- the loop's head
@@ -126,9 +122,17 @@ module _ (l : Loan) (m₀ ps₀ : List ℕ) (k : ℕ) (r₀ : Registers) where
       next_move r.motion r.base.mode r.base.scale ≡ Going v →
       let c = displaced r.base v in
       length (points c.lit) ≤ length ps₀ - n →
-      Beaten w (whole c) m (sets ps n (points c.lit)) (n + length (points c.lit)) (halted c.stop)
+      Beaten w c.registers m (sets ps n (points c.lit)) (n + length (points c.lit)) (halted c.stop)
   plain_beat {m} {r = r} {n = n} w v q fit =
-      record { turned = moves_turn l m (length ps₀ - n) r v q (le-leb _ _ fit); stored = refl; drawn = refl; place = refl; halt = refl }
+      record {
+        act = whole (displaced r.base v);
+        turned = moves_turn l m (length ps₀ - n) r v q (le-leb _ _ fit);
+        registers = refl;
+        stored = refl;
+        drawn = refl;
+        place = refl;
+        halt = refl;
+      }
 
   moves_made : (j : ℕ) (m ps : List ℕ) (r : Registers) (b n : ℕ) → Head m ps r b n → r.base.datastate ≡ true → k - b ≡ suc j →
       MovesCome m (sequence j r ps n)
@@ -147,7 +151,7 @@ module _ (l : Loan) (m₀ ps₀ : List ℕ) (k : ℕ) (r₀ : Registers) where
           let p = both (plain r.base v) _ t in
           let c = displaced r.base v in
           let fit : length (points c.lit) ≤ length ps₀ - n = omega (arith, leb-true (n + length (points c.lit)) (length ps) p.1, length-drawn h) in
-          let on : halted c.stop ≡ Goes = ap (λ (q : Outcome). halted q.stop) (plainly r.base v p.0) in
+          let on : halted c.stop ≡ None = ap (λ (q : Outcome). halted q.stop) (plainly r.base v p.0) in
           ih (sets ps n (points c.lit)) c.registers (b + 1) (n + length (points c.lit))
           (goes (plain_beat (record { far = h; some = omega arith }) v q fit) on)
           (ap (λ (q : Outcome). q.registers.base.datastate) (plainly r.base v p.0) ∙ d)
@@ -157,59 +161,61 @@ module _ (l : Loan) (m₀ ps₀ : List ℕ) (k : ℕ) (r₀ : Registers) where
   -- CONTROL WORDS
 
   -- how far the run has come with them, by whether it goes on
-  abbrev pub Come : List ℕ → List ℕ → Registers → ℕ → ℕ → Halt → Type 0
-  Come m ps r b n Goes = Head m ps r b n
-  Come m ps r b n (Ends ending) = Far l m₀ ps₀ k r₀ m ps r b n (ended r m ending)
+  abbrev pub Come : List ℕ → List ℕ → Registers → ℕ → ℕ → Option Ending → Type 0
+  Come m ps r b n None = Head m ps r b n
+  Come m ps r b n (Some ending) = Far l m₀ ps₀ k r₀ m ps r b n (ended r m ending)
 
   abbrev WordsCome : List ℕ → ℕ → ObeyedLeft → Type 0
   WordsCome ps n w =
       Come w.memory ps (record { base = w.obeyed.base; motion = Nothing }) (k - w.obeyed.left) n w.obeyed.halt
 
-  words_stay : (j : ℕ) (m ps : List ℕ) (c : Base) (b n : ℕ) (x : Halt) → Come m ps (record { base = c; motion = Nothing }) b n x → b ≤ k → k - b ≡ j →
+  words_stay : (j : ℕ) (m ps : List ℕ) (c : Base) (b n : ℕ) (x : Option Ending) → Come m ps (record { base = c; motion = Nothing }) b n x → b ≤ k → k - b ≡ j →
       WordsCome ps n (record { obeyed = record { base = c; left = j; halt = x }; memory = m })
   words_stay j m ps c b n x h s e =
       let q : b ≡ k - j = omega arith in subst (λ (t : ℕ). Come m ps (record { base = c; motion = Nothing }) t n x) q h
 
   -- a control word's beat lights nothing
   obeyed : {m ps : List ℕ} {r : Registers} {b n : ℕ} (w : Within l m₀ ps₀ k r₀ m ps r b n) {a : Act} → turn l (length ps₀ - n) r m ≡ Does a →
-      a.lit ≡ Dark → {x : Halt} → halted a.stop ≡ x → Beaten w a (store a.stores m) ps n x
-  obeyed {ps = ps} {n = n} w q dark p =
+      a.lit ≡ None → {x : Option Ending} → halted a.stop ≡ x → Beaten w a.registers (store a.stores m) ps n x
+  obeyed {ps = ps} {n = n} w {a} q dark p =
       record {
+        act = a;
         turned = q;
+        registers = refl;
         stored = refl;
-        drawn = ap (λ (t : Lit). sets ps n (points t)) (sym dark);
-        place = omega (arith, ap (λ (t : Lit). length (points t)) dark);
+        drawn = ap (λ (t : Option ℕ). sets ps n (points t)) (sym dark);
+        place = omega (arith, ap (λ (t : Option ℕ). length (points t)) dark);
         halt = sym p;
       }
 
   -- a control word obeyed, and how the sequence goes on behind it
   act_obeyed : (j : ℕ) (m ps : List ℕ) (c : Base) (b n : ℕ) → Within l m₀ ps₀ k r₀ m ps (record { base = c; motion = Nothing }) b n → k - b ≡ suc j →
-      (a : Act) → turn l (length ps₀ - n) (record { base = c; motion = Nothing }) m ≡ Does a → a.lit ≡ Dark → a.registers.motion ≡ Nothing →
+      (a : Act) → turn l (length ps₀ - n) (record { base = c; motion = Nothing }) m ≡ Does a → a.lit ≡ None → a.registers.motion ≡ Nothing →
       (Head (store a.stores m) ps (record { base = a.registers.base; motion = Nothing }) (b + 1) n →
       WordsCome ps n (obey j l a.registers.base (store a.stores m))) →
-      (x : Halt) → halted a.stop ≡ x → WordsCome ps n (follow (obey j l) j m a x)
-  act_obeyed j m ps c b n w e a q dark still ih Goes p =
+      (x : Option Ending) → halted a.stop ≡ x → WordsCome ps n (follow (obey j l) j m a x)
+  act_obeyed j m ps c b n w e a q dark still ih None p =
       ih (subst (λ (t : Motion). Head (store a.stores m) ps (record { base = a.registers.base; motion = t }) (b + 1) n) still
       (goes (obeyed w q dark p) refl))
-  act_obeyed j m ps c b n w e a q dark still ih (Ends ending) p =
-      words_stay j (store a.stores m) ps a.registers.base (b + 1) n (Ends ending)
-      (subst (λ (t : Motion). Come (store a.stores m) ps (record { base = a.registers.base; motion = t }) (b + 1) n (Ends ending)) still
+  act_obeyed j m ps c b n w e a q dark still ih (Some ending) p =
+      words_stay j (store a.stores m) ps a.registers.base (b + 1) n (Some ending)
+      (subst (λ (t : Motion). Come (store a.stores m) ps (record { base = a.registers.base; motion = t }) (b + 1) n (Some ending)) still
       (stops (obeyed w q dark p) refl))
       (omega (arith, w.some))
       (omega arith)
 
   words_obeyed : (j : ℕ) (m ps : List ℕ) (c : Base) (b n : ℕ) → Head m ps (record { base = c; motion = Nothing }) b n → k - b ≡ j → WordsCome ps n (obey j l c m)
   unfolding obey
-  words_obeyed zero m ps c b n h e = words_stay zero m ps c b n Goes h h.spent e
+  words_obeyed zero m ps c b n h e = words_stay zero m ps c b n None h h.spent e
   words_obeyed (suc j) m ps c b n h e =
-      pick_case (WordsCome ps n) (c.datastate || c.request) (λ _. words_stay (suc j) m ps c b n Goes h h.spent e)
+      pick_case (WordsCome ps n) (c.datastate || c.request) (λ _. words_stay (suc j) m ps c b n None h h.spent e)
       (λ t.
       let f = neither c.datastate c.request t in
       by (λ m c b. words_obeyed j m ps c b n) (walk l m (next_word c)) (turn_control l m (length ps₀ - n) c f.0 f.1) (next_bare l m c))
     where
       by : ((m : List ℕ) (c : Base) (b : ℕ) → Head m ps (record { base = c; motion = Nothing }) b n → k - b ≡ j → WordsCome ps n (obey j l c m)) →
           (t : Turn) → turn l (length ps₀ - n) (record { base = c; motion = Nothing }) m ≡ t → Bare t → WordsCome ps n (on_turn (obey j l) j c m t)
-      by ih (Fails why) q g = words_stay (suc j) m ps c b n (Ends (Failed why)) (fails (record { far = h; some = omega arith }) q) h.spent e
+      by ih (Fails why) q g = words_stay (suc j) m ps c b n (Some (Failed why)) (fails (record { far = h; some = omega arith }) q) h.spent e
       by ih (Rests resting) q g = absurd g
       by ih (Does a) q g =
           act_obeyed j m ps c b n (record { far = h; some = omega arith }) e a q g.0 g.1
@@ -221,7 +227,7 @@ module _ (l : Loan) (m₀ ps₀ : List ℕ) (k : ℕ) (r₀ : Registers) where
 
   pub record Made (b : ℕ) (a : AheadLeft) : Type 0 where
     pub comes : Come a.memory a.points a.ahead.registers (k - a.ahead.left) a.ahead.place a.ahead.halt
-    pub drawing : a.ahead.halt ≡ Goes → 0 < a.ahead.left → Drawing a.ahead.registers
+    pub drawing : a.ahead.halt ≡ None → 0 < a.ahead.left → Drawing a.ahead.registers
     pub left : a.ahead.left ≤ k - b
 
   either : (a c : Bool) → (a || c) ≡ true → c ≡ false → a ≡ true
@@ -258,8 +264,8 @@ module _ (l : Loan) (m₀ ps₀ : List ℕ) (k : ℕ) (r₀ : Registers) where
 
   -- by whether the run goes on from there
   module _ {b : ℕ} {a : Ahead} {m' ps' : List ℕ} (h : Made b (leaves a m' ps')) where
-    pub goes_on : a.halt ≡ Goes → Head m' ps' a.registers (k - a.left) a.place
+    pub goes_on : a.halt ≡ None → Head m' ps' a.registers (k - a.left) a.place
     goes_on e = subst (Come m' ps' a.registers (k - a.left) a.place) e h.comes
 
-    pub ends_at : {ending : Ending} → a.halt ≡ Ends ending → Far l m₀ ps₀ k r₀ m' ps' a.registers (k - a.left) a.place (ended a.registers m' ending)
+    pub ends_at : {ending : Ending} → a.halt ≡ Some ending → Far l m₀ ps₀ k r₀ m' ps' a.registers (k - a.left) a.place (ended a.registers m' ending)
     ends_at e = subst (Come m' ps' a.registers (k - a.left) a.place) e h.comes

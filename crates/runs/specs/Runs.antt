@@ -1,6 +1,6 @@
 -- The run of 01's section 'One turn of a run': by its budget, its endings, and what a call leaves of it. Memory, points and beats come out of the turns that
 -- the definition takes. Assumes nothing.
-use Rattle.std.specs.Prelude.{ℕ, zero, suc, ◌-◌, List, [], ◌++◌, length, drop}
+use Rattle.std.specs.Prelude.{ℕ, zero, suc, ◌-◌, List, [], ◌++◌, length, drop, Option, None, Some}
 use Rattle.registers.specs.declared.Registers.{Registers}
 use Rattle.loan.specs.declared.Loan.{Loan}
 use Rattle.touches.specs.declared.Act.{Act}
@@ -9,8 +9,6 @@ use Rattle.beam.specs.DataWords.{points}
 use Rattle.turns.specs.OneTurn.{turn}
 use Rattle.endings.specs.declared.Ending.{Ending}
 use Rattle.endings.specs.declared.Ending.TheVariants.{BudgetSpent, Failed}
-use Rattle.endings.specs.declared.Halt.{Halt}
-use Rattle.endings.specs.declared.Halt.TheVariants.{Goes, Ends}
 use Rattle.endings.specs.Endings.{rested, rest_ending, halted}
 use Rattle.runs.specs.declared.Answer.TheVariants.{Ended}
 use Rattle.runs.specs.declared.Ran.{Ran}
@@ -37,9 +35,9 @@ made ps f =
 abbrev pub Go : Type 0
 Go = ℕ → Registers → List ℕ → Run
 
-abbrev pub follow : Go → ℕ → List ℕ → Act → Halt → Run
-follow go room m c Goes = go (room - length (points c.lit)) c.registers (store c.stores m)
-follow go room m c (Ends ending) = ended c.registers (store c.stores m) ending
+abbrev pub follow : Go → ℕ → List ℕ → Act → Option Ending → Run
+follow go room m c None = go (room - length (points c.lit)) c.registers (store c.stores m)
+follow go room m c (Some ending) = ended c.registers (store c.stores m) ending
 
 -- endings 16 to 19 change nothing and leave running on; 13 and 15 make no beat
 abbrev pub onward : Go → ℕ → Registers → List ℕ → Turn → Run

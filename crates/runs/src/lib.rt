@@ -5,16 +5,16 @@ ghost use Rattle.std.specs.Prelude.{◌≡◌, ◌+◌, ◌≤◌, length};
 ghost use Rattle.std.proofs.lemmas.List.Edits.{sets};
 ghost use Rattle.registers.specs.Good.{Good};
 ghost use Rattle.beam.specs.DataWords.{points as points_of};
+ghost use Rattle.runs.specs.declared.Answer.TheVariants.{Ended};
 ghost use Rattle.runs.specs.Ahead.{make_ahead, leaves as ahead_leaves};
 ghost use Rattle.runs.specs.Runs.{run, left, leaves};
 
-use beam::Lit;
-use endings::{Ending, Halt};
+use endings::Ending;
 use loan::Loan;
 use registers::{Motion, Registers};
-use touches::Turn;
+use touches::{Lent, Turn};
 
-// A refusal's number, or the ending with the beats made and the points lit.
+// A refusal's number, or the ending with the beats made and the points lit. An enum of its own and no Result: 01 names it, and an ending is no error.
 #[derive(Clone, Copy)]
 pub enum Answer {
     Refused(u8),
@@ -27,27 +27,37 @@ pub struct Ran {
     pub answer: Answer,
 }
 
+// A run that ends: its registers, how it ends, its beats and its points.
+fn ended(registers: Registers, ending: Ending, beats: u32, place: usize) -> Ran
+    ensures { result ≡ record { registers = registers; answer = Ended ending beats place } }
+{
+    Ran {
+        registers,
+        answer: Answer::Ended(ending, beats, place),
+    }
+}
+
 // Puts the point, if there is one, at a place, and answers the next place.
-fn put(lit: Lit, points: &mut [u64], place: usize) -> usize
+fn put(lit: Option<u64>, points: &mut [u64], place: usize) -> usize
     requires { place + length (points_of lit) ≤ length points.old }
     ensures { (result ≡ place + length (points_of lit)) × (points.new ≡ sets points.old place (points_of lit)) }
 {
     match lit {
-        Lit::Dark => place,
-        Lit::Point(value) => {
+        None => place,
+        Some(value) => {
             points[place] = value;
             place + 1
         }
     }
 }
 
-// What is made ahead of a turn: the registers, the next place in the point list, what is left of the budget, and whether the run goes on.
+// What is made ahead of a turn: the registers, the next place in the point list, what is left of the budget, and how the run ends, if it does.
 #[derive(Clone, Copy)]
 struct Ahead {
     pub registers: Registers,
     pub place: usize,
     pub left: u32,
-    pub halt: Halt,
+    pub halt: Option<Ending>,
 }
 
 // The beats that can be made in a loop of their own: control words as long as there are any, or the plain moves of a line or a byte. One beat at least is
@@ -68,49 +78,46 @@ fn make_ahead(
     match motion {
         Motion::Nothing => {
             let obeyed = control_sequence::obey(b, l, memory, limit);
-            let base = obeyed.base;
-            let halt = obeyed.halt;
             let registers = Registers {
-                base,
+                base: obeyed.base,
                 motion: Motion::Nothing,
             };
             Ahead {
                 registers,
                 place,
                 left: obeyed.left,
-                halt,
+                halt: obeyed.halt,
             }
         }
         Motion::Line(lastword, line) => {
             let moves = move_sequence::line_moves(b, lastword, line, points, place, limit - 1);
-            let registers = moves.registers;
             Ahead {
-                registers,
+                registers: moves.registers,
                 place: moves.place,
                 left: moves.left + 1,
-                halt: Halt::Goes,
+                halt: None,
             }
         }
         Motion::Bytes(lastword, bytes) => {
             let moves = move_sequence::byte_moves(b, lastword, bytes, points, place, limit - 1);
-            let registers = moves.registers;
             Ahead {
-                registers,
+                registers: moves.registers,
                 place: moves.place,
                 left: moves.left + 1,
-                halt: Halt::Goes,
+                halt: None,
             }
         }
         Motion::Character(_) => Ahead {
             registers: r,
             place,
             left: limit,
-            halt: Halt::Goes,
+            halt: None,
         },
     }
 }
 
-// The run of an accepted call on a running display.
+// The run of an accepted call on a running display. That the registers are in range is asked and no type's: a type would be taken apart and made again in every
+// turn, and the loops ahead of a turn take the registers in parts.
 pub fn run(r: Registers, l: Loan, memory: &mut [u16], points: &mut [u64], budget: u32) -> Ran
     requires { Good r }
     ensures { leaves result memory.new points.new ≡ left (run budget l (length points.old) r memory.old) points.old }
@@ -118,83 +125,48 @@ pub fn run(r: Registers, l: Loan, memory: &mut [u16], points: &mut [u64], budget
     let mut current = r;
     let mut beats: u32 = 0;
     let mut place: usize = 0;
+    // No `for` over the budget: how many beats a pass takes is known only behind it.
     while beats < budget {
         let before = make_ahead(current, l, memory, points, place, budget - beats);
         beats = budget - before.left;
         place = before.place;
-        let reached = before.registers;
-        current = reached;
-        let halt = before.halt;
-        match halt {
-            Halt::Goes => {}
-            Halt::Ends(ending) => {
-                return Ran {
-                    registers: current,
-                    answer: Answer::Ended(ending, beats, place),
-                };
-            }
+        current = before.registers;
+        if let Some(ending) = before.halt {
+            return ended(current, ending, beats, place);
         }
         if budget <= beats {
-            return Ran {
-                registers: current,
-                answer: Answer::Ended(Ending::BudgetSpent, beats, place),
-            };
+            return ended(current, Ending::BudgetSpent, beats, place);
         }
-        match turns::turn(current, l, &memory[..], points.len() - place) {
-            Turn::Fails(why) => {
-                return Ran {
-                    registers: current,
-                    answer: Answer::Ended(Ending::Failed(why), beats, place),
-                };
-            }
+        let lent = Lent {
+            loan: l,
+            memory: &memory[..],
+        };
+        let turn = match turns::turn(current, lent, points.len() - place) {
+            Ok(turn) => turn,
+            Err(why) => return ended(current, Ending::Failed(why), beats, place),
+        };
+        let stop = match turn {
             Turn::Rests(resting) => {
                 let registers = endings::rested(current, resting);
                 let rest = endings::rest_ending(resting);
-                return Ran {
-                    registers,
-                    answer: Answer::Ended(rest, beats, place),
-                };
+                return ended(registers, rest, beats, place);
             }
             Turn::Storeless(outcome) => {
-                let spot = outcome.lit;
-                place = put(spot, points, place);
-                let further = outcome.registers;
-                current = further;
-                beats += 1;
-                let halt = outcome.stop;
-                match endings::halted(halt) {
-                    Halt::Goes => {}
-                    Halt::Ends(end) => {
-                        return Ran {
-                            registers: current,
-                            answer: Answer::Ended(end, beats, place),
-                        };
-                    }
-                }
+                place = put(outcome.lit, points, place);
+                current = outcome.registers;
+                outcome.stop
             }
             Turn::Does(act) => {
-                let stores = act.stores;
-                let lit = act.lit;
-                touches::store(stores, memory);
-                place = put(lit, points, place);
-                let next = act.registers;
-                current = next;
-                beats += 1;
-                let stop = act.stop;
-                match endings::halted(stop) {
-                    Halt::Goes => {}
-                    Halt::Ends(stopped) => {
-                        return Ran {
-                            registers: current,
-                            answer: Answer::Ended(stopped, beats, place),
-                        };
-                    }
-                }
+                touches::store(act.stores, memory);
+                place = put(act.lit, points, place);
+                current = act.registers;
+                act.stop
             }
+        };
+        beats += 1;
+        if let Some(end) = endings::halted(stop) {
+            return ended(current, end, beats, place);
         }
     }
-    Ran {
-        registers: current,
-        answer: Answer::Ended(Ending::BudgetSpent, beats, place),
-    }
+    ended(current, Ending::BudgetSpent, beats, place)
 }

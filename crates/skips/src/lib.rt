@@ -12,7 +12,7 @@ use registers::Base;
 pub fn skip_set(b: Base, skip: bool, buttons: u16, sense: bool, idle: bool) -> Base
     ensures { result ≡ skip_set b skip buttons sense idle }
 {
-    let address = addresses::pick_address(skip, b.address.after(3), b.address.after(1));
+    let address = words::pick(skip, b.address.after(3), b.address.after(1));
     Base {
         address,
         buttons,
@@ -65,17 +65,17 @@ pub fn flag_skip(b: Base, word: u16) -> Base
     skip_set(b, skip, b.buttons, b.sense & !clear, b.idle)
 }
 
-// One up, or down, stopping at the ends.
+// One up, or down, stopping at the ends. Whether it counts and which way are two bits of the word, so both stay parameters.
 #[tactic(auto, unfolding(crate::specs::ControlWords::counted, words::specs::Words::pick))]
 pub fn counted(value: u8, top: u8, on: bool, down: bool) -> u8
     ensures { result ≡ counted value top on down }
 {
-    if on {
-        if down {
-            if 0 < value { value - 1 } else { 0 }
-        } else {
-            if value < top { value + 1 } else { value }
-        }
+    if !on {
+        value
+    } else if down {
+        value.saturating_sub(1)
+    } else if value < top {
+        value + 1
     } else {
         value
     }

@@ -2,19 +2,24 @@
 #![tactic(auto)]
 
 ghost use Rattle.std.specs.Prelude.{◌≡◌};
-ghost use Rattle.source.specs.Source.{is_blank, at_rest, after_digit, after_comment, next, unread, address_with, word_with, noted, fills, moved, step, laid, reads, read, whole};
+ghost use Rattle.source.specs.Source.{is_blank, at_rest, after_digit, after_comment, next, unread, address_with, word_with, spanned, reads, read};
 
-// The line that is being read, how far it is (the definition's places), and what the lines before it made.
-#[derive(Clone, Copy)]
-pub struct Source {
-    pub place: u8,
-    pub address: u16,
-    pub word: u16,
-    // Whether there was a word, the first one's address, the lowest address and the one behind the highest.
-    pub any: bool,
+// Where the words of a lesson stand: the first one's address, the lowest address and the one behind the highest.
+#[derive(Clone, Copy, Debug, PartialEq, Eq)]
+pub struct Span {
     pub start: u16,
     pub low: u16,
     pub high: u16,
+}
+
+// The line that is being read, how far it is, and where the words before it stand, if there was one.
+#[derive(Clone, Copy, Debug, PartialEq, Eq)]
+pub struct Source {
+    // A number, and no enum: the definition counts the digits of a line by it.
+    pub place: u8,
+    pub address: u16,
+    pub word: u16,
+    pub span: Option<Span>,
 }
 
 fn is_blank(byte: u8) -> bool
@@ -51,32 +56,21 @@ fn after_comment(place: u8, byte: u8) -> u8
     }
 }
 
-#[tactic(auto, unfolding(crate::specs::Source::next))]
+#[tactic(auto, unfolding(crate::specs::Source::next, words::specs::Words::pick))]
 fn next(place: u8, byte: u8) -> u8
     ensures { result ≡ next place byte }
 {
-    let between = words::pick_u8((5 <= place) & (place <= 6), 6, 12);
-    let blank = words::pick_u8(at_rest(place), place, between);
-    let comment = words::pick_u8(at_rest(place), 11, 12);
-    let newline = words::pick_u8(at_rest(place), 0, 12);
-    let other = words::pick_u8(is_blank(byte), blank, after_digit(place, byte));
-    let slashed = words::pick_u8(byte == b'/', comment, other);
-    let ended = words::pick_u8(byte == b'\n', newline, slashed);
-    words::pick_u8(11 <= place, after_comment(place, byte), ended)
-}
-
-// A lesson of which nothing is read.
-pub fn unread() -> Source
-    ensures { result ≡ unread }
-{
-    Source {
-        place: 0,
-        address: 0,
-        word: 0,
-        any: false,
-        start: 0,
-        low: 0,
-        high: 0,
+    if 11 <= place {
+        after_comment(place, byte)
+    } else if byte == b'\n' {
+        words::pick(at_rest(place), 0, 12)
+    } else if byte == b'/' {
+        words::pick(at_rest(place), 11, 12)
+    } else if is_blank(byte) {
+        let between = words::pick((5 <= place) & (place <= 6), 6, 12);
+        words::pick(at_rest(place), place, between)
+    } else {
+        after_digit(place, byte)
     }
 }
 
@@ -92,80 +86,130 @@ fn word_with(word: u16, byte: u8) -> u16
     8 * (word % 512) + lines::digit(byte)
 }
 
-// The word is whole.
-#[tactic(auto, unfolding(crate::specs::Source::noted))]
-fn noted(s: Source) -> Source
-    ensures { result ≡ noted s }
+// Where the words stand with one more.
+#[tactic(auto, unfolding(crate::specs::Source::spanned, words::specs::Words::pick))]
+fn spanned(span: Option<Span>, address: u16) -> Span
+    ensures { result ≡ spanned span address }
 {
-    Source {
-        any: true,
-        start: words::pick_u16(s.any, s.start, s.address),
-        low: words::pick_u16(s.any & (s.low <= s.address), s.low, s.address),
-        high: words::pick_u16(s.any & (s.address < s.high), s.high, s.address % 32768 + 1),
-        ..s
+    let behind = address % 32768 + 1;
+    let Some(span) = span else {
+        return Span {
+            start: address,
+            low: address,
+            high: behind,
+        };
+    };
+    Span {
+        start: span.start,
+        low: span.low.min(address),
+        high: words::pick(address < span.high, span.high, behind),
     }
 }
 
-fn fills(s: Source, byte: u8) -> bool
-    ensures { result ≡ fills s byte }
-{
-    (s.place == 9) & lines::is_octal(byte)
-}
+impl Source {
+    ghost use Rattle.source.specs.Source.{noted, fills, moved, step, laid, is_broken, whole};
 
-#[tactic(auto, unfolding(crate::specs::Source::moved))]
-fn moved(s: Source, byte: u8) -> Source
-    ensures { result ≡ moved s byte }
-{
-    let octal = lines::is_octal(byte);
-    let address = address_with(s.address, byte);
-    let word = word_with(s.word, byte);
-    Source {
-        place: next(s.place, byte),
-        address: words::pick_u16(octal & (s.place < 5), address, s.address),
-        word: words::pick_u16(octal & (6 <= s.place) & (s.place < 10), word, s.word),
-        ..s
+    // A lesson of which nothing is read.
+    pub fn unread() -> Source
+        ensures { result ≡ unread }
+    {
+        Source {
+            place: 0,
+            address: 0,
+            word: 0,
+            span: None,
+        }
     }
-}
 
-// One byte more, for who reads without a memory.
-#[tactic(auto, unfolding(words::specs::Words::pick))]
-pub fn step(s: Source, byte: u8) -> Source
-    ensures { result ≡ step s byte }
-{
-    let t = moved(s, byte);
-    if fills(s, byte) { noted(t) } else { t }
-}
+    // The word is whole.
+    fn noted(self) -> Source
+        ensures { result ≡ noted self }
+    {
+        Source {
+            span: Some(spanned(self.span, self.address)),
+            ..self
+        }
+    }
 
-// Lays the word that a byte makes whole into the memory.
-#[tactic(auto, unfolding(words::specs::Words::pick))]
-fn lay(s: Source, byte: u8, memory: &mut [u16; 32768])
-    ensures { memory.new ≡ laid s byte memory.old }
-{
-    if fills(s, byte) {
-        let t = moved(s, byte);
-        let at = (t.address % 32768) as usize;
-        memory[at] = t.word;
+    // Whether a byte makes the word whole.
+    pub fn fills(self, byte: u8) -> bool
+        ensures { result ≡ fills self byte }
+    {
+        (self.place == 9) & lines::is_octal(byte)
+    }
+
+    #[tactic(auto, unfolding(crate::specs::Source::moved, words::specs::Words::pick))]
+    fn moved(self, byte: u8) -> Source
+        ensures { result ≡ moved self byte }
+    {
+        let octal = lines::is_octal(byte);
+        let address = address_with(self.address, byte);
+        let word = word_with(self.word, byte);
+        Source {
+            place: next(self.place, byte),
+            address: words::pick(octal & (self.place < 5), address, self.address),
+            word: words::pick(
+                octal & (6 <= self.place) & (self.place < 10),
+                word,
+                self.word,
+            ),
+            ..self
+        }
+    }
+
+    // One byte more, for who reads without a memory.
+    #[tactic(auto, unfolding(words::specs::Words::pick))]
+    pub fn step(self, byte: u8) -> Source
+        ensures { result ≡ step self byte }
+    {
+        let moved = self.moved(byte);
+        if self.fills(byte) {
+            moved.noted()
+        } else {
+            moved
+        }
+    }
+
+    // Lays the word that a byte makes whole into the memory.
+    #[tactic(auto, unfolding(words::specs::Words::pick))]
+    fn lay(self, byte: u8, memory: &mut [u16; 32768])
+        ensures { memory.new ≡ laid self byte memory.old }
+    {
+        if self.fills(byte) {
+            let moved = self.moved(byte);
+            memory[(moved.address % 32768) as usize] = moved.word;
+        }
+    }
+
+    // Whether the line is none, for good.
+    pub fn is_broken(self) -> bool
+        ensures { result ≡ is_broken self }
+    {
+        self.place == 12
+    }
+
+    // Where its words stand, if it was a lesson.
+    #[tactic(auto, unfolding(words::specs::Words::pick))]
+    pub fn whole(self) -> Option<Span>
+        ensures { result ≡ whole self }
+    {
+        if at_rest(self.place) | (self.place == 11) {
+            self.span
+        } else {
+            None
+        }
     }
 }
 
 // Reads a whole text.
+#[tactic(auto, using(crate::proofs::Reading::read_next, crate::proofs::Reading::read_ends))]
 pub fn read(input: &[u8], memory: &mut [u16; 32768]) -> Source
     ensures { reads result memory.new ≡ read unread memory.old input.now }
 {
-    let mut s = unread();
-    let mut i = 0;
-    while i < input.len() {
-        lay(s, input[i], memory);
-        s = step(s, input[i]);
-        i += 1;
+    let mut s = Source::unread();
+    for byte in input {
+        s.lay(*byte, memory);
+        s = s.step(*byte);
     }
     s
-}
-
-// Whether it was a lesson.
-pub fn whole(s: Source) -> bool
-    ensures { result ≡ whole s }
-{
-    let place = s.place;
-    s.any & (at_rest(place) | (place == 11))
 }

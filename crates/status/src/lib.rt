@@ -62,12 +62,7 @@ pub fn status_one(b: Base) -> u16
 fn stage_byte_flag(s: Stage) -> bool
     ensures { result ≡ stage_byte_flag s }
 {
-    match s {
-        Stage::Table => false,
-        Stage::Routine(_, _) => false,
-        Stage::Increments(_, t) => t.right,
-        Stage::Short(_, _) => false,
-    }
+    matches!(s, Stage::Increments(_, t) if t.right)
 }
 
 // Whether the right byte of an increment word is under way.
@@ -76,13 +71,9 @@ fn byte_flag(m: Motion) -> bool
     ensures { result ≡ byte_flag m }
 {
     match m {
-        Motion::Nothing => false,
-        Motion::Line(_, _) => false,
         Motion::Bytes(_, t) => t.right,
-        Motion::Character(c) => {
-            let stage = c.stage;
-            stage_byte_flag(stage)
-        }
+        Motion::Character(c) => stage_byte_flag(c.stage),
+        _ => false,
     }
 }
 
@@ -102,12 +93,7 @@ pub fn status_two(b: Base, m: Motion) -> u16
 fn right_character(m: Motion) -> bool
     ensures { result ≡ right_character m }
 {
-    match m {
-        Motion::Nothing => false,
-        Motion::Line(_, _) => false,
-        Motion::Bytes(_, _) => false,
-        Motion::Character(c) => c.right,
-    }
+    matches!(m, Motion::Character(c) if c.right)
 }
 
 // The character generator's word.

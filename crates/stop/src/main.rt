@@ -5,11 +5,11 @@
 mod shown;
 
 use endings::Ending;
+use host::Operation;
 use loan::Loan;
-use numerals::Numeral;
 use registers::Registers;
 use runs::{Answer, Ran};
-use source::Source;
+use source::Span;
 use std::env::Env;
 use std::io;
 use std::io::Print;
@@ -19,93 +19,57 @@ const LONGEST: usize = 262144;
 
 type Memory = [u16; 32768];
 
-// Memory before anything is read into it. It is made in a function of its own, so that what is proved of the caller says nothing of each of its words.
-fn blank() -> Memory {
-    [0u16; 32768]
-}
-
 // What the command line asks for: after how many beats the stop, and the word that is changed during it.
 #[derive(Clone, Copy)]
 struct Stop {
-    valid: bool,
     beats: u32,
-    changes: bool,
+    change: Option<Change>,
+}
+
+#[derive(Clone, Copy)]
+struct Change {
     address: u16,
     word: u16,
 }
 
-// A number, octal or decimal, that an argument is. One that cannot be taken is told, if those before it could.
-fn number(
+// The number that is read of an argument. One that cannot be taken is told.
+fn number<F: Fn(&[u8]) -> Option<u32>>(
     rt: &impl Env,
     err: &impl Print,
-    fair: bool,
     i: usize,
-    octal: bool,
-    most: u32,
+    read: F,
     wanted: &[u8],
-) -> io::Result<Numeral> {
+) -> io::Result<Option<u32>>
+    requires { F.IsAlwaysCallable read }
+{
     let mut argument = [0u8; 64];
-    let length = console::argument(rt, i, &mut argument);
-    let n = if octal {
-        numerals::octal(most, &argument[..length])
-    } else {
-        numerals::decimal(most, &argument[..length])
-    };
-    if fair & !n.valid {
-        console::write(err, wanted)?;
-        console::write(err, b": '")?;
-        console::write(err, &argument[..length])?;
-        console::write(err, b"' cannot be taken.\n")?;
-    }
-    Ok(Numeral {
-        valid: fair & n.valid,
-        value: n.value,
-    })
+    console::value_of(rt, err, i, &mut argument, read, wanted)
 }
 
-fn asked_for(rt: &impl Env, err: &impl Print) -> io::Result<Stop> {
-    let beats = number(
-        rt,
-        err,
-        true,
-        1,
-        false,
-        65535,
-        b"BEATS wants a number of beats, 0 to 65535, as 6",
-    )?;
-    let changes = 2 < console::argument_count(rt);
-    let mut address = Numeral {
-        valid: beats.valid,
-        value: 0,
+fn asked_for(rt: &impl Env, err: &impl Print) -> io::Result<Option<Stop>> {
+    let wanted = b"BEATS wants a number of beats, 0 to 65535, as 6";
+    let Some(beats) = number(rt, err, 1, |s| numerals::decimal(65535, s), wanted)? else {
+        return Ok(None);
     };
-    let mut word = address;
-    if changes {
-        address = number(
-            rt,
-            err,
-            beats.valid,
-            2,
-            true,
-            32767,
-            b"ADDRESS wants an address in octal, 0 to 77777, as 00206",
-        )?;
-        word = number(
-            rt,
-            err,
-            address.valid,
-            3,
-            true,
-            4095,
-            b"WORD wants a word in octal, 0 to 7777, as 0600",
-        )?;
+    if console::argument_count(rt) <= 2 {
+        return Ok(Some(Stop {
+            beats,
+            change: None,
+        }));
     }
-    Ok(Stop {
-        valid: word.valid,
-        beats: beats.value,
-        changes,
-        address: (address.value % 32768) as u16,
-        word: (word.value % 4096) as u16,
-    })
+    let wanted = b"ADDRESS wants an address in octal, 0 to 77777, as 00206";
+    let Some(address) = number(rt, err, 2, |s| numerals::octal(32767, s), wanted)? else {
+        return Ok(None);
+    };
+    let wanted = b"WORD wants a word in octal, 0 to 7777, as 0600";
+    let Some(word) = number(rt, err, 3, |s| numerals::octal(4095, s), wanted)? else {
+        return Ok(None);
+    };
+    let change = Some(Change {
+        address: (address % 32768) as u16,
+        word: (word % 4096) as u16,
+    });
+    Ok(Some(Stop { beats, change }))
 }
 
 // An answer that counts the beats from the lesson's first on.
@@ -118,11 +82,6 @@ fn counted(answer: Answer, before: u32) -> Answer {
     }
 }
 
-// As many points as a part may light, before one is lit.
-fn dark() -> [u64; 1024] {
-    [0u64; 1024]
-}
-
 // A part of the run, behind those that made so many beats. Its points are written.
 fn run_part(
     out: &impl Print,
@@ -132,81 +91,67 @@ fn run_part(
     before: u32,
     budget: u32,
 ) -> io::Result<Ran> {
-    let mut points = dark();
+    // As many points as a part may light.
+    let mut points = console::all(0);
     let ran = calls::call(r, l, memory, &mut points, budget);
-    let answer = ran.answer;
-    let registers = ran.registers;
-    shown::write_points(out, &points, calls::numbered(answer).points)?;
+    shown::write_points(out, &points, calls::numbered(ran.answer).points)?;
     Ok(Ran {
-        registers,
-        answer: counted(answer, before),
+        registers: ran.registers,
+        answer: counted(ran.answer, before),
     })
-}
-
-// Whether a part ended so.
-fn has_ended(answer: Answer, ending: Ending) -> bool {
-    calls::numbered(answer).ending == endings::ending_numbers(ending).number
 }
 
 // The part that an operation begins: a stop request, or a resume. It may use up what is left of 65,535 beats.
 fn go_on(
     out: &impl Print,
     ran: Ran,
-    operation: u32,
+    operation: Operation,
     l: Loan,
     memory: &mut Memory,
 ) -> io::Result<Ran> {
-    let registers = ran.registers;
-    let answer = ran.answer;
-    let before = calls::numbered(answer).beats % 65536;
-    let operated = host::operate(registers, operation, 0);
-    let ready = operated.registers;
+    let before = calls::numbered(ran.answer).beats % 65536;
+    let ready = host::operate(ran.registers, operation.into(), 0).registers;
     let next = run_part(out, ready, l, memory, before, 65535 - before)?;
     shown::write_ending(out, next)?;
     Ok(next)
 }
 
 // The run of a lesson, stopped after some beats and resumed. It may end before the stop, or instead of it.
-fn run(out: &impl Print, stop: Stop, s: Source, memory: &mut Memory) -> io::Result<()> {
-    let all = arguments::taken(arguments::nothing(), b"--all");
+fn run(out: &impl Print, stop: Stop, s: Span, memory: &mut Memory) -> io::Result<()> {
+    let all = arguments::all_lent(arguments::nothing());
     let l = asked::lent(all, s);
     let first = run_part(out, asked::started(all, s), l, memory, 0, stop.beats)?;
-    let reached = first.answer;
-    if !has_ended(reached, Ending::BudgetSpent) {
+    if !matches!(first.answer, Answer::Ended(Ending::BudgetSpent, _, _)) {
         return shown::write_ending(out, first);
     }
-    let stopped = go_on(out, first, 6, l, memory)?;
-    let answer = stopped.answer;
-    if has_ended(answer, Ending::ExternalStop) {
-        let registers = stopped.registers;
-        shown::write_held(out, registers)?;
-        if stop.changes {
-            memory[(stop.address % 32768) as usize] = stop.word;
-            shown::write_word(out, b"changed ", stop.address, stop.word)?;
+    let stopped = go_on(out, first, Operation::StopRequest, l, memory)?;
+    if matches!(stopped.answer, Answer::Ended(Ending::ExternalStop, _, _)) {
+        shown::write_held(out, stopped.registers)?;
+        if let Some(change) = stop.change {
+            memory[(change.address % 32768) as usize] = change.word;
+            shown::write_word(out, b"changed ", change.address, change.word)?;
         }
         shown::write_resumed(out)?;
-        go_on(out, stopped, 4, l, memory)?;
+        go_on(out, stopped, Operation::Resume, l, memory)?;
     }
     Ok(())
 }
 
 fn start(rt: HostRuntime) -> io::Result<()> {
     let err = rt.stderr();
-    let stop = asked_for(&rt, &err)?;
-    if !stop.valid {
+    let Some(stop) = asked_for(&rt, &err)? else {
         return Ok(());
-    }
+    };
     let mut input = vec![in rt.alloc(); 0u8; LONGEST + 1]?;
-    let mut memory = blank();
+    let mut memory = console::all(0);
     let count = console::read_full(&rt, &mut input)?;
-    let s = source::read(&input[..count], &mut memory);
-    if (count <= LONGEST) & source::whole(s) {
-        run(&rt, stop, s, &mut memory)
-    } else {
-        console::write(
+    let read = source::read(&input[..count], &mut memory);
+    match read.whole() {
+        Some(s) if count <= LONGEST => run(&rt, stop, s, &mut memory),
+        _ => console::write(
             &err,
             b"the lesson cannot be read: ./eveglome run tells what is wrong with it, and in which line.\n",
-        )
+        ),
     }
 }
 

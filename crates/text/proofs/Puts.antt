@@ -11,7 +11,9 @@ use lib.Seq.{sets, sets-eq, drop-cons, drop-length}
 use borrow.Author.Tests.{lt-ltb}
 use Rattle.words.specs.Words.{pick}
 use Rattle.words.proofs.Laws.{pick_case}
+use Rattle.text.specs.declared.Text.{Text}
 use Rattle.text.specs.Text.{Filled, filled, put, puts, whole, figure, decimal, octal, number}
+use Rattle.text.specs.Adds.{Adds}
 
 puts_append : (a b : List ℕ) (f : Filled) → puts (a ++ b) f ≡ puts b (puts a f)
 unfolding puts
@@ -20,6 +22,10 @@ puts_append (x ∷ a) b f = puts_append a b (put x f)
 
 pub behind : (a b : List ℕ) (f : Filled) {g h : Filled} → g ≡ puts a f → h ≡ puts b g → h ≡ puts (a ++ b) f
 behind a b f p q = q ∙ ap (puts b) p ∙ sym (puts_append a b f)
+
+-- a text that goes on twice goes on with both
+pub adds_behind : (a b : List ℕ) {f g h : Text} → Adds f g a → Adds g h b → Adds f h (a ++ b)
+adds_behind a b p q = record { same = q.same ∙ p.same; put = behind a b _ p.put q.put }
 
 -- one byte more
 pub puts_next : (bytes : List ℕ) (i : ℕ) (f : Filled) {g : Filled} → i < length bytes → g ≡ puts (get_or bytes i 0 ∷ []) f →

@@ -1,97 +1,115 @@
-// Text as bytes, put one behind the other into a lent list. A place says how far the list is filled; what finds no room is dropped.
+// Text as bytes, put one behind the other into a lent list; what finds no room is dropped.
 #![tactic(auto)]
 
-ghost use Rattle.std.specs.Prelude.{◌≡◌, [], ◌∷◌, ◌≤◌};
-ghost use Rattle.text.specs.Text.{filled, puts, figure, decimal, number, octal, octal_digit, octal_word, octal_address};
+ghost use Rattle.std.specs.Prelude.{◌≡◌, [], ◌∷◌, ◌≤◌, take};
 
-#[tactic(auto, unfolding(crate::specs::Text::puts, crate::specs::Text::put, words::specs::Words::pick))]
-pub fn put(byte: u8, text: &mut [u8], place: usize) -> usize
-    ensures { filled result text.new ≡ puts (byte ∷ []) (filled place text.old) }
-{
-    if place < text.len() {
-        text[place] = byte;
-        place + 1
-    } else {
-        place
+// A lent list that is filled with text up to a place.
+#[derive(Drop)]
+pub struct Text<'a> {
+    pub list: &'a mut [u8],
+    pub place: usize,
+}
+
+impl<'a> Text<'a> {
+    ghost use Rattle.text.specs.Text.{filled, figure, decimal, number, octal, octal_digit, octal_word, octal_address};
+    ghost use Rattle.text.specs.Adds.{Adds};
+
+    // A list before anything is put into it.
+    pub fn new(list: &'a mut [u8]) -> Text<'a>
+        ensures same { result.list.ghost_name ≡ list.entry.ghost_name }
+        ensures empty { filled result.place result.list.now ≡ filled 0 list.old }
+    {
+        Text { list, place: 0 }
     }
-}
 
-pub fn put_all(bytes: &[u8], text: &mut [u8], place: usize) -> usize
-    ensures { filled result text.new ≡ puts bytes.now (filled place text.old) }
-{
-    let mut at = place;
-    let mut i = 0;
-    while i < bytes.len() {
-        at = put(bytes[i], text, at);
-        i += 1;
+    #[tactic(auto, unfolding(crate::specs::Text::puts, crate::specs::Text::put, words::specs::Words::pick))]
+    pub fn put(&mut self, byte: u8)
+        ensures { Adds self.old self.new (byte ∷ []) }
+    {
+        if self.place < self.list.len() {
+            self.list[self.place] = byte;
+            self.place += 1;
+        }
     }
-    at
-}
 
-// One figure of a number in a base, by its weight: none where the number is smaller.
-#[tactic(auto, unfolding(crate::specs::Text::figure, crate::specs::Text::puts, words::specs::Words::pick))]
-fn put_figure(base: u32, value: u32, weight: u32, text: &mut [u8], place: usize) -> usize
-    requires { (1 ≤ base) × (base ≤ 10) × (1 ≤ weight) }
-    ensures { filled result text.new ≡ puts (figure base value weight) (filled place text.old) }
-{
-    if weight <= value {
-        put(48 + (value / weight % base) as u8, text, place)
-    } else {
-        place
+    pub fn put_all(&mut self, bytes: &[u8])
+        ensures { Adds self.old self.new bytes.now }
+    {
+        for byte in bytes {
+            self.put(*byte);
+        }
     }
-}
 
-// A number below 100,000 in decimal.
-pub fn put_decimal(value: u32, text: &mut [u8], place: usize) -> usize
-    ensures { filled result text.new ≡ puts (decimal value) (filled place text.old) }
-{
-    let thousands = put_figure(10, value, 10000, text, place);
-    let hundreds = put_figure(10, value, 1000, text, thousands);
-    let tens = put_figure(10, value, 100, text, hundreds);
-    let ones = put_figure(10, value, 10, text, tens);
-    put(48 + (value % 10) as u8, text, ones)
-}
+    // One figure of a number in a base, by its weight: none where the number is smaller.
+    #[tactic(auto, unfolding(crate::specs::Text::figure, crate::specs::Text::puts, words::specs::Words::pick))]
+    fn put_figure(&mut self, base: u32, value: u32, weight: u32)
+        requires { (1 ≤ base) × (base ≤ 10) × (1 ≤ weight) }
+        ensures { Adds self.old self.new (figure base value weight) }
+    {
+        if weight <= value {
+            self.put(48 + (value / weight % base) as u8);
+        }
+    }
 
-// The number, and the byte that ends it.
-pub fn put_number(value: u32, end: u8, text: &mut [u8], place: usize) -> usize
-    ensures { filled result text.new ≡ puts (number value end) (filled place text.old) }
-{
-    let at = put_decimal(value, text, place);
-    put(end, text, at)
-}
+    // A number below 100,000 in decimal.
+    pub fn put_decimal(&mut self, value: u32)
+        ensures { Adds self.old self.new (decimal value) }
+    {
+        self.put_figure(10, value, 10000);
+        self.put_figure(10, value, 1000);
+        self.put_figure(10, value, 100);
+        self.put_figure(10, value, 10);
+        self.put(48 + (value % 10) as u8);
+    }
 
-// A number below 4,096 in octal.
-pub fn put_octal(value: u16, text: &mut [u8], place: usize) -> usize
-    ensures { filled result text.new ≡ puts (octal value) (filled place text.old) }
-{
-    let hundreds = put_figure(8, value as u32, 512, text, place);
-    let tens = put_figure(8, value as u32, 64, text, hundreds);
-    let ones = put_figure(8, value as u32, 8, text, tens);
-    put(48 + (value % 8) as u8, text, ones)
-}
+    // The number, and the byte that ends it.
+    pub fn put_number(&mut self, value: u32, end: u8)
+        ensures { Adds self.old self.new (number value end) }
+    {
+        self.put_decimal(value);
+        self.put(end);
+    }
 
-// One octal digit of a number, by its weight.
-fn put_octal_digit(value: u16, weight: u16, text: &mut [u8], place: usize) -> usize
-    requires { 1 ≤ weight }
-    ensures { filled result text.new ≡ puts (octal_digit value weight ∷ []) (filled place text.old) }
-{
-    put(48 + (value / weight % 8) as u8, text, place)
-}
+    // A number below 4,096 in octal.
+    pub fn put_octal(&mut self, value: u16)
+        ensures { Adds self.old self.new (octal value) }
+    {
+        self.put_figure(8, value as u32, 512);
+        self.put_figure(8, value as u32, 64);
+        self.put_figure(8, value as u32, 8);
+        self.put(48 + (value % 8) as u8);
+    }
 
-// The last four octal digits of a number, all that a word has.
-pub fn put_word(word: u16, text: &mut [u8], place: usize) -> usize
-    ensures { filled result text.new ≡ puts (octal_word word) (filled place text.old) }
-{
-    let first = put_octal_digit(word, 512, text, place);
-    let second = put_octal_digit(word, 64, text, first);
-    let third = put_octal_digit(word, 8, text, second);
-    put_octal_digit(word, 1, text, third)
-}
+    // One octal digit of a number, by its weight.
+    fn put_octal_digit(&mut self, value: u16, weight: u16)
+        requires { 1 ≤ weight }
+        ensures { Adds self.old self.new (octal_digit value weight ∷ []) }
+    {
+        self.put(48 + (value / weight % 8) as u8);
+    }
 
-// The last five octal digits of a number, all that an address has.
-pub fn put_address(address: u16, text: &mut [u8], place: usize) -> usize
-    ensures { filled result text.new ≡ puts (octal_address address) (filled place text.old) }
-{
-    let first = put_octal_digit(address, 4096, text, place);
-    put_word(address, text, first)
+    // The last four octal digits of a number, all that a word has.
+    pub fn put_word(&mut self, word: u16)
+        ensures { Adds self.old self.new (octal_word word) }
+    {
+        self.put_octal_digit(word, 512);
+        self.put_octal_digit(word, 64);
+        self.put_octal_digit(word, 8);
+        self.put_octal_digit(word, 1);
+    }
+
+    // The last five octal digits of a number, all that an address has.
+    pub fn put_address(&mut self, address: u16)
+        ensures { Adds self.old self.new (octal_address address) }
+    {
+        self.put_octal_digit(address, 4096);
+        self.put_word(address);
+    }
+
+    // What the list is filled with.
+    pub fn as_bytes(&self) -> &[u8]
+        ensures { result.now ≡ take self.now.place self.now.list.now }
+    {
+        &self.list[..self.place.min(self.list.len())]
+    }
 }

@@ -2,24 +2,20 @@
 -- shown where they are defined. Assumes nothing.
 use Prim.Native.Nat.{ℕ, ◌≤◌}
 use mathlib.Core.List.{List}
-use Rattle.std.specs.Prelude.{nat_le}
+use Rattle.std.specs.Prelude.{nat_le, Option, None, Some, Result, Ok, Err}
 use lib.ListN.{get_or}
 use borrow.Author.Tests.{leb-true}
 use Rattle.words.proofs.Laws.{pick_case}
 use Rattle.addresses.specs.declared.DisplayAddress.{DisplayAddress}
-use Rattle.registers.specs.declared.Held.{Held}
-use Rattle.registers.specs.declared.Held.TheVariants.{Empty, Holds}
 use Rattle.registers.specs.Good.{GoodHeld}
 use Rattle.beam.proofs.Kept.{GoodLeft}
+use Rattle.touches.specs.declared.Why.{Why}
 use Rattle.loan.specs.declared.Loan.{Loan}
 use Rattle.loan.specs.Loan.{may_fetch, may_store}
 use Rattle.touches.specs.declared.Act.{Act}
-use Rattle.touches.specs.declared.Got.{Got}
-use Rattle.touches.specs.declared.Got.TheVariants.{Word, Not}
 use Rattle.touches.specs.declared.Resting.{Resting}
 use Rattle.touches.specs.declared.Resting.TheVariants.{External, Unusable}
-use Rattle.touches.specs.declared.Stores.{Stores}
-use Rattle.touches.specs.declared.Stores.TheVariants.{Nowhere, Two}
+use Rattle.touches.specs.declared.Push.{Push}
 use Rattle.touches.specs.Touches.{Beat, fetch, act, rest, taking_by, Turn, Fails, Rests, Does, fetched, on_got, allowed, walk}
 
 -- a rest is good if the word that it holds is
@@ -38,9 +34,9 @@ GoodBeat (act c) = GoodAct c
 GoodBeat (rest resting) = GoodRest resting
 
 -- what is good with every good word is good with the next command's first word
-pub taking_good : (a : DisplayAddress) (k : ℕ → Beat) (h : Held) → GoodHeld h → ((w : ℕ) → w ≤ 4095 → GoodBeat (k w)) → GoodBeat (taking_by a k h)
-taking_good a k Empty g i = i
-taking_good a k (Holds word) g i = i word g
+pub taking_good : (a : DisplayAddress) (k : ℕ → Beat) (h : Option ℕ) → GoodHeld h → ((w : ℕ) → w ≤ 4095 → GoodBeat (k w)) → GoodBeat (taking_by a k h)
+taking_good a k None g i = i
+taking_good a k (Some word) g i = i word g
 
 -- a turn is good if what it does is, or the rest is
 abbrev pub GoodTurn : Turn → Type 0
@@ -49,27 +45,27 @@ GoodTurn (Rests resting) = GoodRest resting
 GoodTurn (Does c) = GoodAct c
 
 -- a word that is got is good
-abbrev GoodGot : Got → Type 0
-GoodGot (Word w) = w ≤ 4095
-GoodGot (Not why) = Unit {0}
+abbrev GoodGot : Result ℕ Why → Type 0
+GoodGot (Ok w) = w ≤ 4095
+GoodGot (Err why) = Unit {0}
 
 fetched_good : (l : Loan) (m : List ℕ) (a : DisplayAddress) → GoodGot (fetched l m a)
 unfolding fetched
 fetched_good l m a =
     pick_case GoodGot (may_fetch l a) (λ _. pick_case GoodGot (nat_le (get_or m a.0 0) 4095) (λ e. leb-true _ _ e) (λ _. tt)) (λ _. tt)
 
-allowed_good : (l : Loan) (c : Act) → GoodAct c → (s : Stores) → GoodTurn (allowed l c s)
+allowed_good : (l : Loan) (c : Act) → GoodAct c → (s : Option Push) → GoodTurn (allowed l c s)
 unfolding allowed
-allowed_good l c g Nowhere = g
-allowed_good l c g (Two at word next second) =
-    pick_case GoodTurn (may_store l at) (λ _. pick_case GoodTurn (may_store l next) (λ _. g) (λ _. tt)) (λ _. tt)
+allowed_good l c g None = g
+allowed_good l c g (Some push) =
+    pick_case GoodTurn (may_store l push.at) (λ _. pick_case GoodTurn (may_store l push.next) (λ _. g) (λ _. tt)) (λ _. tt)
 
 pub walk_good : (l : Loan) (m : List ℕ) (b : Beat) → GoodBeat b → GoodTurn (walk l m b)
 unfolding walk
 walk_good l m (fetch a k) h = by (λ w q. walk_good l m (k w) (h w q)) (fetched l m a) (fetched_good l m a)
   where
-    by : ((w : ℕ) → w ≤ 4095 → GoodTurn (walk l m (k w))) → (g : Got) → GoodGot g → GoodTurn (on_got (λ w. walk l m (k w)) g)
-    by ih (Word w) q = ih w q
-    by ih (Not why) q = tt
+    by : ((w : ℕ) → w ≤ 4095 → GoodTurn (walk l m (k w))) → (g : Result ℕ Why) → GoodGot g → GoodTurn (on_got (λ w. walk l m (k w)) g)
+    by ih (Ok w) q = ih w q
+    by ih (Err why) q = tt
 walk_good l m (act c) h = allowed_good l c h c.stores
 walk_good l m (rest resting) h = h

@@ -3,6 +3,7 @@ use Prim.Native.Nat.{ℕ}
 use mathlib.Core.Path.{◌≡◌, refl, sym, ap, ap₂, ◌∙◌}
 use mathlib.Core.Bool.{Bool}
 use mathlib.Core.List.{List}
+use Rattle.std.specs.Prelude.{Result, Ok, Err}
 use Rattle.registers.specs.declared.Base.{Base}
 use Rattle.registers.specs.declared.Motion.{Motion}
 use Rattle.registers.specs.declared.Motion.TheVariants.{Nothing, Line, Bytes, Character}
@@ -12,8 +13,6 @@ use Rattle.registers.specs.declared.CharacterMotion.{CharacterMotion}
 use Rattle.moves.specs.declared.Moving.TheVariants.{Still}
 use Rattle.moves.specs.DataWords.{character_next, next_move}
 use Rattle.loan.specs.declared.Loan.{Loan}
-use Rattle.touches.specs.declared.Got.{Got}
-use Rattle.touches.specs.declared.Got.TheVariants.{Word, Not}
 use Rattle.touches.specs.declared.Why.{Why}
 use Rattle.touches.specs.Touches.{Beat, taking, Fails, walk}
 use Rattle.touches.specs.Taken.{taken}
@@ -32,11 +31,11 @@ module _ (l : Loan) (m : List ℕ) (b : Base) where
   walk_command w e p = ap₂ (λ (z : Base) (t : Bool). walk l m (command_by z w t)) (sym e) p
 
 -- an idle beat that takes the next word up, for a stop or for a command, by what is got
-module _ (l : Loan) (m : List ℕ) (room : ℕ) (b : Base) (k : ℕ → Beat) (e : walk l m (idle_beat b) ≡ walk l m (taking b k)) {g : Got} (p : g ≡ taken l m b) where
-  pub idle_word : {w : ℕ} → g ≡ Word w → room_for room (walk l m (idle_beat b)) ≡ room_for room (walk l m (k w))
+module _ (l : Loan) (m : List ℕ) (room : ℕ) (b : Base) (k : ℕ → Beat) (e : walk l m (idle_beat b) ≡ walk l m (taking b k)) {g : Result ℕ Why} (p : g ≡ taken l m b) where
+  pub idle_word : {w : ℕ} → g ≡ Ok w → room_for room (walk l m (idle_beat b)) ≡ room_for room (walk l m (k w))
   idle_word q = ap (room_for room) (e ∙ walk_taken l m b.address k b.held p q)
 
-  pub idle_not : {why : Why} → g ≡ Not why → room_for room (walk l m (idle_beat b)) ≡ Fails why
+  pub idle_not : {why : Why} → g ≡ Err why → room_for room (walk l m (idle_beat b)) ≡ Fails why
   unfolding room_for
   idle_not q = ap (room_for room) (e ∙ walk_not_taken l m b.address k b.held p q)
 

@@ -8,70 +8,59 @@ ghost use Rattle.turns.specs.OneTurn.{long_beat, data_beat, command_beat, unusab
 ghost use Rattle.turns.specs.Drawing.{Drawing};
 
 use addresses::DisplayAddress;
-use beam::{Lit, Outcome};
-use loan::Loan;
+use beam::Outcome;
 use moves::Moving;
 use registers::{Base, CharacterMotion, Registers};
-use touches::{Got, Resting, Turn, Why};
+use touches::{Lent, Resting, Turn, Why};
 
 // A beat that stores nothing, if there is room for its point. Every beat asks for room where it is made: then nothing needs the registers before it any more,
 // and they can be changed in place.
 #[tactic(auto, unfolding(crate::specs::OneTurn::room_for, words::specs::Words::pick))]
-fn roomed(c: Outcome, room: usize) -> Turn
+fn roomed(c: Outcome, room: usize) -> Result<Turn, Why>
     ensures { said result ≡ room_for room (Does (whole c)) }
 {
-    let lit = c.lit;
-    match lit {
-        Lit::Dark => Turn::Storeless(c),
-        Lit::Point(_) => {
-            if 1 <= room {
-                Turn::Storeless(c)
-            } else {
-                Turn::Fails(Why::Full)
-            }
-        }
+    if c.lit.is_some() & (room == 0) {
+        return Err(Why::Full);
     }
+    Ok(Turn::Storeless(c))
 }
 
 // The data words of two words: a point, or a vector of either kind.
 #[tactic(auto, unfolding(crate::specs::OneTurn::long_beat, crate::specs::OneTurn::room_for, touches::specs::Touches::walk, touches::specs::Touches::allowed, words::specs::Words::pick))]
-fn long_beat(b: Base, word: u16, l: Loan, memory: &[u16], room: usize) -> Turn
-    ensures { said result ≡ room_for room (walk l memory.now (long_beat b word)) }
+fn long_beat(b: Base, word: u16, lent: Lent<'_>, room: usize) -> Result<Turn, Why>
+    ensures { said result ≡ room_for room (walk lent.entry.loan lent.entry.memory.now (long_beat b word)) }
 {
-    match touches::fetched(l, memory, b.address.after(1)) {
-        Got::Word(second) => {
-            if b.mode == 0 {
-                roomed(drawing::point(b, word, second), room)
-            } else {
-                roomed(drawing::vector(b, word, second), room)
-            }
-        }
-        Got::Not(why) => Turn::Fails(why),
+    let second = lent.fetched(b.address.after(1))?;
+    if b.mode == 0 {
+        roomed(drawing::point(b, word, second), room)
+    } else {
+        roomed(drawing::vector(b, word, second), room)
     }
 }
 
 #[tactic(auto, unfolding(crate::specs::OneTurn::data_beat, touches::specs::Touches::walk, touches::specs::Touches::allowed, words::specs::Words::pick))]
-fn data_beat(b: Base, word: u16, l: Loan, memory: &[u16], room: usize) -> Turn
-    ensures { said result ≡ room_for room (walk l memory.now (data_beat b word)) }
+fn data_beat(b: Base, word: u16, lent: Lent<'_>, room: usize) -> Result<Turn, Why>
+    ensures { said result ≡ room_for room (walk lent.entry.loan lent.entry.memory.now (data_beat b word)) }
 {
+    // A number: what is handed in as the register of the mode may be none of the eight, and refusal 4 has to see that.
     let mode = b.mode;
     match mode {
         1 => roomed(drawing::increment(b, word), room),
         4 => roomed(drawing::short_vector(b, word), room),
         5 => roomed(drawing::character(b, word), room),
         6 => roomed(drawing::graphplot(b, word), room),
-        _ => long_beat(b, word, l, memory, room),
+        _ => long_beat(b, word, lent, room),
     }
 }
 
 // The beat of a data word: a command in data state.
 #[tactic(auto, unfolding(words::specs::Words::pick))]
-fn command_beat(b: Base, word: u16, l: Loan, memory: &[u16], room: usize) -> Turn
+fn command_beat(b: Base, word: u16, lent: Lent<'_>, room: usize) -> Result<Turn, Why>
     requires { b.datastate ≡ true }
-    ensures { said result ≡ room_for room (walk l memory.now (command_beat b word)) }
+    ensures { said result ≡ room_for room (walk lent.entry.loan lent.entry.memory.now (command_beat b word)) }
 {
     let ready = control_beats::ready(b);
-    data_beat(ready, word, l, memory, room)
+    data_beat(ready, word, lent, room)
 }
 
 // Data state in a mode that the display has not.
@@ -83,37 +72,30 @@ fn unusable(b: Base) -> bool
 }
 
 // No motion: a stop request, an unusable mode, or the next data word.
-fn idle_beat(b: Base, l: Loan, memory: &[u16], room: usize) -> Turn
+fn idle_beat(b: Base, lent: Lent<'_>, room: usize) -> Result<Turn, Why>
     requires { b.request ≡ false → b.datastate ≡ true }
-    ensures { said result ≡ room_for room (walk l memory.now (idle_beat b)) }
+    ensures { said result ≡ room_for room (walk lent.entry.loan lent.entry.memory.now (idle_beat b)) }
 {
     if b.request {
-        match touches::taken(l, memory, b) {
-            Got::Word(word) => Turn::Rests(Resting::External(word)),
-            Got::Not(why) => Turn::Fails(why),
-        }
+        let word = lent.taken(b)?;
+        Ok(Turn::Rests(Resting::External(word)))
     } else if unusable(b) {
-        Turn::Rests(Resting::Unusable)
+        Ok(Turn::Rests(Resting::Unusable))
     } else {
-        match touches::taken(l, memory, b) {
-            Got::Word(word) => command_beat(b, word, l, memory, room),
-            Got::Not(why) => Turn::Fails(why),
-        }
+        let word = lent.taken(b)?;
+        command_beat(b, word, lent, room)
     }
 }
 
 // The beat that fetches a character's table word.
 #[tactic(auto, unfolding(crate::specs::OneTurn::table_beat, crate::specs::OneTurn::room_for, touches::specs::Touches::walk, touches::specs::Touches::allowed))]
-fn table_beat(b: Base, c: CharacterMotion, l: Loan, memory: &[u16], room: usize) -> Turn
-    ensures { said result ≡ room_for room (walk l memory.now (table_beat b c)) }
+fn table_beat(b: Base, c: CharacterMotion, lent: Lent<'_>, room: usize) -> Result<Turn, Why>
+    ensures { said result ≡ room_for room (walk lent.entry.loan lent.entry.memory.now (table_beat b c)) }
 {
-    match touches::fetched(l, memory, characters::table_address(c, b.starting, b.upper)) {
-        Got::Word(word) => roomed(
-            characters::table_word(control_beats::hold_ended(b), c, word),
-            room,
-        ),
-        Got::Not(why) => Turn::Fails(why),
-    }
+    let at = characters::table_address(c, b.starting, b.upper);
+    let word = lent.fetched(at)?;
+    let base = control_beats::hold_ended(b);
+    roomed(characters::table_word(base, c, word), room)
 }
 
 // The beat that fetches a word of a character's routine.
@@ -123,33 +105,28 @@ fn routine_beat(
     c: CharacterMotion,
     short: bool,
     at: DisplayAddress,
-    l: Loan,
-    memory: &[u16],
+    lent: Lent<'_>,
     room: usize,
-) -> Turn
-    ensures { said result ≡ room_for room (walk l memory.now (routine_beat b c short at)) }
+) -> Result<Turn, Why>
+    ensures { said result ≡ room_for room (walk lent.entry.loan lent.entry.memory.now (routine_beat b c short at)) }
 {
-    match touches::fetched(l, memory, at) {
-        Got::Word(word) => roomed(
-            characters::routine_word(control_beats::hold_ended(b), c, short, at, word),
-            room,
-        ),
-        Got::Not(why) => Turn::Fails(why),
-    }
+    let word = lent.fetched(at)?;
+    let base = control_beats::hold_ended(b);
+    roomed(characters::routine_word(base, c, short, at, word), room)
 }
 
 // One turn: the beat, if its touches can be made and there is room for its point. Control words are control_sequence's.
 #[tactic(auto, unfolding(crate::specs::OneTurn::turn, touches::specs::Touches::walk, touches::specs::Touches::allowed))]
-pub fn turn(r: Registers, l: Loan, memory: &[u16], room: usize) -> Turn
+pub fn turn(r: Registers, lent: Lent<'_>, room: usize) -> Result<Turn, Why>
     requires { Drawing r }
-    ensures { said result ≡ turn l room r memory.now }
+    ensures { said result ≡ turn lent.entry.loan room r lent.entry.memory.now }
 {
     let m = r.motion;
     let b = r.base;
     match moves::next_move(m, b.mode, b.scale) {
         Moving::Going(v) => roomed(moves::displaced(b, v), room),
-        Moving::Still => idle_beat(b, l, memory, room),
-        Moving::Looks(c) => table_beat(b, c, l, memory, room),
-        Moving::Reads(c, short, at) => routine_beat(b, c, short, at, l, memory, room),
+        Moving::Still => idle_beat(b, lent, room),
+        Moving::Looks(c) => table_beat(b, c, lent, room),
+        Moving::Reads(c, short, at) => routine_beat(b, c, short, at, lent, room),
     }
 }

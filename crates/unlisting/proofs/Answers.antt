@@ -1,54 +1,43 @@
 -- What a reading answers: where 1, 3 or 6 refuses, and behind them by what its first pass found. Assumes nothing.
 use Prim.Native.Nat.{ℕ, ◌+◌, ◌-◌}
-use mathlib.Core.Path.{◌≡◌, refl, sym, ◌∙◌, ap}
-use mathlib.Core.Bool.{Bool, true, false, ◌&&◌}
+use mathlib.Core.Path.{◌≡◌, sym}
+use mathlib.Core.Bool.{◌&&◌}
 use mathlib.Core.List.{List}
-use native.Mathlib.Omega.{arith}
-use Rattle.std.specs.Prelude.{nat_eq}
-use lib.ListN.{length, length-drop}
-use borrow.Author.Tests.{eqb-true, eqb-false, eq-eqb, ne_eqb}
+use Rattle.std.specs.Prelude.{nat_eq, Result, Ok, Err}
+use lib.ListN.{length}
+use lib.Seq.{sets}
 use Rattle.words.specs.Words.{pick}
+use Rattle.words.proofs.Laws.{pick_case}
 use Rattle.listed_lines.specs.declared.Standing.{Standing}
 use Rattle.listed_lines.specs.ListedLines.{starting}
-use Rattle.listing.specs.Listing.{refusal}
-use Rattle.unlisting.specs.declared.Lines.{Lines}
-use Rattle.unlisting.specs.declared.Reading.TheVariants.{Refused, NotInForm, Done}
+use Rattle.listing.specs.declared.Refusal.{Refusal}
+use Rattle.listing.specs.declared.Refusal.TheVariants.{Line}
+use Rattle.listing.specs.Listing.{refusal, unless_refused}
+use Rattle.listing.proofs.Unrefused.{not_refused}
 use Rattle.unlisting.specs.Unlisting.{read_lines, leaves, reading}
-use Rattle.unlisting.specs.Passes.{laid_if, LinesRead}
+use Rattle.unlisting.specs.Passes.{checked}
 
-pub refused : (s m : List ℕ) (low high state mode : ℕ) {n : ℕ} → n ≡ refusal (length m) low high state mode → (n ≡ 0 → ⊥) →
-    leaves (Refused n) m ≡ reading s m low high state mode
-unfolding reading pick
-refused s m low high state mode {n} e h = rw (← e, ne_eqb n 0 h)
+pub refused : (s m : List ℕ) (low high state mode : ℕ) {r : Refusal} → Err r ≡ refusal (length m) low high state mode →
+    leaves (Err r) m ≡ reading s m low high state mode
+unfolding reading unless_refused
+refused s m low high state mode e = rw (← e)
 
--- tests of numbers that are equal together are one test
-alike : (a b c d : ℕ) → (a ≡ b → c ≡ d) → (c ≡ d → a ≡ b) → nat_eq a b ≡ nat_eq c d
-alike a b c d f g = by (nat_eq a b) refl
-  where
-    by : (t : Bool) → nat_eq a b ≡ t → t ≡ nat_eq c d
-    by true e = sym (eq-eqb c d (f (eqb-true a b e)))
-    by false e = sym (ne_eqb c d (λ h. eqb-false a b e (g h)))
+module _ (s m : List ℕ) (low high state mode : ℕ) {from : Standing} (accepted : refusal (length m) low high state mode ≡ Ok tt) (begun : from ≡ starting state mode) where
+  pub unformed : {r : Refusal} → Err r ≡ checked (high - low) (read_lines (high - low) low from s) → leaves (Err r) m ≡ reading s m low high state mode
+  unfolding reading unless_refused pick
+  unformed {r} =
+      let found = read_lines (high - low) low from s in
+      let test = nat_eq (length found.words) (high - low) && nat_eq (length found.left) 0 in
+      pick_case (λ (q : Result (Unit {0}) Refusal). Err r ≡ q → leaves (Err r) m ≡ reading s m low high state mode) test
+      (λ _ e. absurd (not_refused e))
+      (λ h (e : ◌≡◌ {A = Result (Unit {0}) Refusal} (Err r) (Err (Line (length found.words + 1)))). let line : r ≡ Line (length found.words + 1) = cc in rw (accepted, ← begun, h, line))
 
-module _ (s m : List ℕ) (low high state mode : ℕ) {from : Standing} {n : List ℕ} {r : Lines} (accepted : refusal (length m) low high state mode ≡ 0)
-    (begun : from ≡ starting state mode) (pass : LinesRead (read_lines (high - low) low from s) s false low m n r) where
-  -- the first pass lays no word
-  unchanged : n ≡ m
-  unfolding laid_if pick
-  unchanged = pass.memory
-
-  all_found : (t : Bool) → (nat_eq r.count (high - low) && nat_eq r.length (length s)) ≡ t →
-      (nat_eq (length (read_lines (high - low) low from s).words) (high - low) && nat_eq (length (read_lines (high - low) low from s).left) 0) ≡ t
-  all_found t e =
-      let left : length s - r.length ≡ length (read_lines (high - low) low from s).left = sym (length-drop r.length s) ∙ ap length pass.left in
-      let ends : nat_eq r.length (length s) ≡ nat_eq (length (read_lines (high - low) low from s).left) 0 =
-      alike r.length (length s) (length (read_lines (high - low) low from s).left) 0 (λ h. omega arith) (λ h. omega (arith, pass.inside)) in
-      rw (← pass.count, ← ends) e
-
-  pub unformed : (nat_eq r.count (high - low) && nat_eq r.length (length s)) ≡ false → leaves (NotInForm (r.count + 1)) n ≡ reading s m low high state mode
-  unfolding reading pick
-  unformed e = rw (eq-eqb _ _ accepted, ← begun, all_found false e, pass.count, unchanged)
-
-  pub accepts : (nat_eq r.count (high - low) && nat_eq r.length (length s)) ≡ true → {o : List ℕ} {q : Lines} →
-      LinesRead (read_lines (high - low) low from s) s true low n o q → leaves Done o ≡ reading s m low high state mode
-  unfolding reading laid_if pick
-  accepts e second = rw (eq-eqb _ _ accepted, ← begun, all_found true e, second.memory, unchanged)
+  pub accepts : {o : List ℕ} → o ≡ sets m low (read_lines (high - low) low from s).words → Ok tt ≡ checked (high - low) (read_lines (high - low) low from s) →
+      leaves (Ok tt) o ≡ reading s m low high state mode
+  unfolding reading unless_refused pick
+  accepts {o} laid =
+      let found = read_lines (high - low) low from s in
+      let test = nat_eq (length found.words) (high - low) && nat_eq (length found.left) 0 in
+      pick_case (λ (q : Result (Unit {0}) Refusal). Ok tt ≡ q → leaves (Ok tt) o ≡ reading s m low high state mode) test
+      (λ h _. rw (accepted, ← begun, h, laid))
+      (λ _ e. absurd (not_refused (sym e)))

@@ -1,37 +1,22 @@
 -- Texts that begin with a line: byte by byte, and as a whole. Assumes nothing.
-use Prim.Native.Nat.{ℕ, suc, ◌+◌, ◌≤◌, ◌<◌}
-use mathlib.Core.Path.{◌≡◌, refl, sym, ◌∙◌, ap}
-use mathlib.Core.Bool.{true, false, ◌&&◌}
+use Prim.Native.Nat.{ℕ}
+use mathlib.Core.Path.{◌≡◌, refl, ap}
+use mathlib.Core.Bool.{Bool, true, ◌&&◌}
 use mathlib.Core.List.{List, [], ◌∷◌, ◌++◌}
 use native.Mathlib.Omega.{arith}
 use Rattle.std.specs.Prelude.{nat_eq}
-use lib.ListN.{length, get_or, drop, drop_of_length-le}
-use lib.Seq.{drop-cons}
-use borrow.Author.Tests.{eqb-true, eq-eqb, ne_eqb}
+use Rattle.std.specs.List.{starts_with}
+use lib.ListN.{length, drop}
+use borrow.Author.Tests.{eqb-true, eq-eqb}
 use Rattle.words.proofs.Laws.{both}
 use Rattle.unlisting.specs.Unlisting.{begins}
 
--- the bytes at a place of a line and of a text
-module _ (line text : List ℕ) (i : ℕ) where
-  module _ (h : i < length line) (k : i < length text) where
-    parts : begins (drop i line) (drop i text) ≡ (nat_eq (get_or line i 0) (get_or text i 0) && begins (drop (i + 1) line) (drop (i + 1) text))
-    unfolding begins
-    parts =
-        let s : i + 1 ≡ suc i = omega arith in rw (s, drop-cons line i 0 h, drop-cons text i 0 k)
-
-    pub begins_next : get_or line i 0 ≡ get_or text i 0 → begins (drop (i + 1) line) (drop (i + 1) text) ≡ begins (drop i line) (drop i text)
-    begins_next e = sym (parts ∙ rw (eq-eqb _ _ e))
-
-    pub begins_other : (get_or line i 0 ≡ get_or text i 0 → ⊥) → false ≡ begins (drop i line) (drop i text)
-    begins_other n = sym (parts ∙ rw (ne_eqb _ _ n))
-
-  pub begins_short : i < length line → length text ≤ i → false ≡ begins (drop i line) (drop i text)
-  unfolding begins
-  begins_short h k = rw (drop-cons line i 0 h, drop_of_length-le text k)
-
-  pub begins_all : length line ≤ i → true ≡ begins (drop i line) (drop i text)
-  unfolding begins
-  begins_all h = rw (drop_of_length-le line h)
+-- the library's test, of a text and a line
+pub begins_library : (line text : List ℕ) → starts_with nat_eq text line ≡ begins line text
+unfolding begins
+begins_library [] text = refl
+begins_library (b ∷ line) [] = refl
+begins_library (b ∷ line) (c ∷ text) = ap (λ (t : Bool). nat_eq b c && t) (begins_library line text)
 
 -- a text that begins with a line is the line and what stands behind it
 pub begins_split : (line text : List ℕ) → begins line text ≡ true → text ≡ line ++ drop (length line) text

@@ -1,10 +1,10 @@
 -- Listing and reading belong together: lines that were listed are read back, and lines that are read are those that would be listed. Assumes nothing.
 use Prim.Native.Nat.{ℕ, zero, suc, ◌+◌, ◌*◌, ◌-◌, ◌/◌, ◌%◌, ◌≤◌, ◌<◌}
-use mathlib.Core.Path.{◌≡◌, refl, sym, ◌∙◌, ap}
+use mathlib.Core.Path.{◌≡◌, refl, sym, ◌∙◌, ap, subst}
 use mathlib.Core.Bool.{Bool, true, not, ◌&&◌}
 use mathlib.Core.List.{List, [], ◌∷◌, ◌++◌, append_assoc, append-nil}
 use native.Mathlib.Omega.{arith}
-use Rattle.std.specs.Prelude.{nat_eq, nat_le, nat_lt}
+use Rattle.std.specs.Prelude.{nat_eq, nat_le, nat_lt, Result, Ok, Err}
 use lib.ListN.{length, take, drop, length-append, take-append-drop}
 use lib.Seq.{slice, length-slice, sets, length-sets, sets-eq, length-take-le, take_at, drop_at, take-take, take-append_seam, drop-append_seam}
 use borrow.Author.Tests.{leb-true, eqb-true, eq-eqb, le-leb, le-ltb, not-false}
@@ -15,10 +15,9 @@ use Rattle.lines.specs.Lines.{four}
 use Rattle.lines.proofs.Reading.{four_small}
 use Rattle.listed_lines.specs.declared.Standing.{Standing}
 use Rattle.listed_lines.specs.ListedLines.{starting, after, shown, line_of}
-use Rattle.listing.specs.declared.Listed.TheVariants.{Refused, Done}
-use Rattle.listing.specs.Listing.{lines_of, text, good, refusal, ListLeft, leaves, listed}
-use Rattle.listing.proofs.Unrefused.{unrefused}
-use Rattle.unlisting.specs.declared.Reading.TheVariants.{Refused as Unread, NotInForm, Done as Accepted}
+use Rattle.listing.specs.declared.Refusal.{Refusal}
+use Rattle.listing.specs.Listing.{lines_of, text, good, refusal, ListLeft, leaves, unless_refused, listed}
+use Rattle.listing.proofs.Unrefused.{unrefused, not_refused}
 use Rattle.unlisting.specs.Unlisting.{begins, word_in, Words, words, read_lines, ReadLeft, leaves as read_leaves, reading}
 use Rattle.unlisting.proofs.Beginnings.{begins_line, begins_split}
 
@@ -99,63 +98,63 @@ module _ (m : List ℕ) (low high : ℕ) (rising : low ≤ high) (inside : high 
 
 -- what a listing that was made is
 record Made (m : List ℕ) (low high state mode : ℕ) (k : ℕ) (left : List ℕ) : Type 0 where
-  unrefused : refusal (length m) low high state mode ≡ 0
+  unrefused : refusal (length m) low high state mode ≡ Ok tt
   goodness : good (slice low high m) ≡ true
   lines : take k left ≡ text m low high state mode
 
-no_listing : (n k : ℕ) → Refused n ≡ Done k → ⊥
-no_listing n k e = let z : ◌≡◌ {A = ℕ} 0 1 = cc in omega arith
+-- a call that was done was not refused
+accepted : {A B : Type 0} (answer : A → Result B Refusal) (refused : Result (Unit {0}) Refusal) (refuses : Refusal → A) (left : A) {x : B} → ((r : Refusal) → answer (refuses r) ≡ Err r) →
+    answer (unless_refused refused refuses left) ≡ Ok x → (refused ≡ Ok tt) × (unless_refused refused refuses left ≡ left)
+unfolding unless_refused
+accepted answer (Err r) refuses left says e = absurd (not_refused (sym (says r) ∙ e))
+accepted answer (Ok _) refuses left says e = (refl, refl)
 
-made : (m : List ℕ) (low high state mode : ℕ) (t : List ℕ) (k : ℕ) → (listed m low high state mode t).answer ≡ Done k →
+made : (m : List ℕ) (low high state mode : ℕ) (t : List ℕ) (k : ℕ) → (listed m low high state mode t).answer ≡ Ok k →
     Made m low high state mode k (listed m low high state mode t).text
 unfolding listed
-made m low high state mode t k =
-    let number = refusal (length m) low high state mode in
+made m low high state mode t k e =
     let lines = text m low high state mode in
-    let P : ListLeft → Type 0 = λ (l : ListLeft). l.answer ≡ Done k → Made m low high state mode k l.text in
-    pick_case P (not (nat_eq number 0)) (λ _ e. absurd (no_listing number k e))
-    (λ u. pick_case P (not (good (slice low high m))) (λ _ e. absurd (no_listing 24 k e))
-    (λ g. pick_case P (nat_lt (length t) (length lines)) (λ _ e. absurd (no_listing 23 k e))
+    let a = accepted (λ (l : ListLeft). l.answer) (refusal (length m) low high state mode) (λ (r : Refusal). leaves (Err r) t) _ (λ _. refl) e in
+    let P : ListLeft → Type 0 = λ (l : ListLeft). l.answer ≡ Ok k → Made m low high state mode k l.text in
+    subst P (sym a.1)
+    (pick_case P (not (good (slice low high m))) (λ _ e. absurd (not_refused e))
+    (λ g. pick_case P (nat_lt (length t) (length lines)) (λ _ e. absurd (not_refused e))
     (λ _ e. let size : k ≡ length lines = cc in record {
-      unrefused = eqb-true _ _ (not-false _ u);
+      unrefused = a.0;
       goodness = not-false _ g;
       lines = rw size (take-append_seam lines _);
     })))
+    e
 
 -- what a reading that was accepted is
 record Taken (s m : List ℕ) (low high state mode : ℕ) (left : List ℕ) : Type 0 where
-  unrefused : refusal (length m) low high state mode ≡ 0
+  unrefused : refusal (length m) low high state mode ≡ Ok tt
   counted : length (read_lines (high - low) low (starting state mode) s).words ≡ high - low
   ended : length (read_lines (high - low) low (starting state mode) s).left ≡ 0
   memory : left ≡ sets m low (read_lines (high - low) low (starting state mode) s).words
 
-no_reading : (n : ℕ) → Unread n ≡ Accepted → ⊥
-no_reading n e = let z : ◌≡◌ {A = ℕ} 0 1 = cc in omega arith
-
-no_form : (n : ℕ) → NotInForm n ≡ Accepted → ⊥
-no_form n e = let z : ◌≡◌ {A = ℕ} 0 1 = cc in omega arith
-
-taken : (s m : List ℕ) (low high state mode : ℕ) → (reading s m low high state mode).answer ≡ Accepted →
+taken : (s m : List ℕ) (low high state mode : ℕ) → (reading s m low high state mode).answer ≡ Ok tt →
     Taken s m low high state mode (reading s m low high state mode).memory
 unfolding reading
-taken s m low high state mode =
-    let number = refusal (length m) low high state mode in
+taken s m low high state mode e =
     let found = read_lines (high - low) low (starting state mode) s in
-    let P : ReadLeft → Type 0 = λ (l : ReadLeft). l.answer ≡ Accepted → Taken s m low high state mode l.memory in
-    pick_case P (not (nat_eq number 0)) (λ _ e. absurd (no_reading number e))
-    (λ u. pick_case P (nat_eq (length found.words) (high - low) && nat_eq (length found.left) 0)
+    let a = accepted (λ (l : ReadLeft). l.answer) (refusal (length m) low high state mode) (λ (r : Refusal). read_leaves (Err r) m) _ (λ _. refl) e in
+    let P : ReadLeft → Type 0 = λ (l : ReadLeft). l.answer ≡ Ok tt → Taken s m low high state mode l.memory in
+    subst P (sym a.1)
+    (pick_case P (nat_eq (length found.words) (high - low) && nat_eq (length found.left) 0)
     (λ h _. let p = both (nat_eq (length found.words) (high - low)) _ h in record {
-      unrefused = eqb-true _ _ (not-false _ u);
+      unrefused = a.0;
       counted = eqb-true _ _ p.0;
       ended = eqb-true _ _ p.1;
       memory = refl;
     })
-    (λ _ e. absurd (no_form (length found.words + 1) e)))
+    (λ _ e. absurd (not_refused e)))
+    e
 
 -- what was listed reads back, in any memory
-pub back : (m n : List ℕ) (low high state mode : ℕ) (t : List ℕ) (k : ℕ) → (listed m low high state mode t).answer ≡ Done k → length n ≡ 32768 →
-    reading (take k (listed m low high state mode t).text) n low high state mode ≡ read_leaves Accepted (sets n low (slice low high m))
-unfolding reading pick
+pub back : (m n : List ℕ) (low high state mode : ℕ) (t : List ℕ) (k : ℕ) → (listed m low high state mode t).answer ≡ Ok k → length n ≡ 32768 →
+    reading (take k (listed m low high state mode t).text) n low high state mode ≡ read_leaves (Ok tt) (sets n low (slice low high m))
+unfolding reading unless_refused pick
 back m n low high state mode t k e size =
     let d = made m low high state mode t k e in
     let u = unrefused (length m) low high state mode d.unrefused in
@@ -167,9 +166,9 @@ back m n low high state mode t k e size =
     rw (d.lines, same, d.unrefused, found, count, eq-eqb (high - low) (high - low) refl)
 
 -- a listing whose lines are known
-listing_of : (m : List ℕ) (low high state mode : ℕ) (s t ws : List ℕ) → refusal (length m) low high state mode ≡ 0 → slice low high m ≡ ws → good ws ≡ true →
-    lines_of low (starting state mode) ws ≡ s → length s ≤ length t → listed m low high state mode t ≡ leaves (Done (length s)) (s ++ drop (length s) t)
-unfolding listed pick
+listing_of : (m : List ℕ) (low high state mode : ℕ) (s t ws : List ℕ) → refusal (length m) low high state mode ≡ Ok tt → slice low high m ≡ ws → good ws ≡ true →
+    lines_of low (starting state mode) ws ≡ s → length s ≤ length t → listed m low high state mode t ≡ leaves (Ok (length s)) (s ++ drop (length s) t)
+unfolding listed unless_refused pick
 listing_of m low high state mode s t ws u e g l h = rw (u, e, g, l, le-ltb (length t) (length s) h)
 
 no_bytes : (t : List ℕ) → length t ≡ 0 → t ≡ []
@@ -177,8 +176,8 @@ no_bytes [] e = refl
 no_bytes (b ∷ t) e = absurd (omega arith)
 
 -- what is accepted is the listing of what is then in memory
-pub only : (s m : List ℕ) (low high state mode : ℕ) (t : List ℕ) → (reading s m low high state mode).answer ≡ Accepted → length s ≤ length t →
-    listed (reading s m low high state mode).memory low high state mode t ≡ leaves (Done (length s)) (s ++ drop (length s) t)
+pub only : (s m : List ℕ) (low high state mode : ℕ) (t : List ℕ) → (reading s m low high state mode).answer ≡ Ok tt → length s ≤ length t →
+    listed (reading s m low high state mode).memory low high state mode t ≡ leaves (Ok (length s)) (s ++ drop (length s) t)
 only s m low high state mode t e h =
     let d = taken s m low high state mode e in
     let u = unrefused (length m) low high state mode d.unrefused in
@@ -191,8 +190,8 @@ only s m low high state mode t e h =
     (slice_sets m low high u.rising (omega (arith, u.size, u.inside)) ws d.counted) (words_good (high - low) low (starting state mode) s) lines h)
 
 -- and where it was listed from, nothing changes
-pub same : (m : List ℕ) (low high state mode : ℕ) (t : List ℕ) (k : ℕ) → (listed m low high state mode t).answer ≡ Done k →
-    reading (take k (listed m low high state mode t).text) m low high state mode ≡ read_leaves Accepted m
+pub same : (m : List ℕ) (low high state mode : ℕ) (t : List ℕ) (k : ℕ) → (listed m low high state mode t).answer ≡ Ok k →
+    reading (take k (listed m low high state mode t).text) m low high state mode ≡ read_leaves (Ok tt) m
 same m low high state mode t k e =
     let u = unrefused (length m) low high state mode (made m low high state mode t k e).unrefused in
-    back m m low high state mode t k e u.size ∙ ap (read_leaves Accepted) (sets_slice m low high u.rising (omega (arith, u.size, u.inside)))
+    back m m low high state mode t k e u.size ∙ ap (read_leaves (Ok tt)) (sets_slice m low high u.rising (omega (arith, u.size, u.inside)))

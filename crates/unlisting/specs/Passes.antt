@@ -1,25 +1,17 @@
--- No reader has to believe this file: it says what one pass over the lines finds and leaves. A reading makes two: the first lays no word. Assumes nothing.
-use Rattle.std.specs.Prelude.{ℕ, ◌≤◌, ◌≡◌, Bool, List, length, drop}
-use Rattle.std.proofs.lemmas.List.Edits.{sets}
+-- No reader has to believe this file: it says what a pass over the lines finds. A reading makes two: the first lays no word. Assumes nothing.
+use Rattle.std.specs.Prelude.{ℕ, ◌+◌, Bool, ◌&&◌, List, nat_eq, length, Option, Some, None, Result, Ok, Err}
 use Rattle.words.specs.Words.{pick}
 use Rattle.listed_lines.specs.ListedLines.{line_of}
-use Rattle.unlisting.specs.declared.Found.{Found}
-use Rattle.unlisting.specs.declared.Found.TheVariants.{Line, Nothing}
-use Rattle.unlisting.specs.declared.Lines.{Lines}
+use Rattle.listing.specs.declared.Refusal.{Refusal}
+use Rattle.listing.specs.declared.Refusal.TheVariants.{Line}
 use Rattle.unlisting.specs.Unlisting.{begins, word_in, Words}
 
--- the line that a text begins with
-unfoldable pub line_in : List ℕ → ℕ → Bool → Found
+-- the word and the length of the line that a text begins with
+unfoldable pub line_in : List ℕ → ℕ → Bool → Option (ℕ × ℕ)
 line_in text a shown =
-    let line = line_of a (word_in text) shown in pick (begins line text) (Line (word_in text) (length line)) Nothing
+    let line = line_of a (word_in text) shown in pick (begins line text) (Some (word_in text, length line)) None
 
--- words laid into a memory, where that is asked for
-unfoldable pub laid_if : Bool → List ℕ → ℕ → List ℕ → List ℕ
-laid_if laying m a ws = pick laying (sets m a ws) m
-
--- a pass over a text that finds these words
-pub record LinesRead (found : Words) (text : List ℕ) (laying : Bool) (low : ℕ) (before after : List ℕ) (r : Lines) : Type 0 where
-  pub count : r.count ≡ length found.words
-  pub inside : r.length ≤ length text
-  pub left : drop r.length text ≡ found.left
-  pub memory : after ≡ laid_if laying before low found.words
+-- what the first pass over so many lines says of the words that it finds
+abbrev pub checked : ℕ → Words → Result (Unit {0}) Refusal
+checked count found =
+    pick (nat_eq (length found.words) count && nat_eq (length found.left) 0) (Ok tt) (Err (Line (length found.words + 1)))

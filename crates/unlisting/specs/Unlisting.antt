@@ -1,14 +1,14 @@
 -- No. 2 of 02, a listing read back. Assumes nothing.
-use Rattle.std.specs.Prelude.{ℕ, zero, suc, ◌+◌, ◌-◌, Bool, true, false, not, ◌&&◌, List, [], ◌∷◌, nat_eq, length, drop}
+use Rattle.std.specs.Prelude.{ℕ, zero, suc, ◌+◌, ◌-◌, Bool, true, false, ◌&&◌, List, [], ◌∷◌, nat_eq, length, drop, Result, Ok, Err}
 use Rattle.std.proofs.lemmas.List.Edits.{sets}
 use Rattle.words.specs.Words.{pick}
 use Rattle.lines.specs.Lines.{word}
 use Rattle.listed_lines.specs.declared.Standing.{Standing}
 use Rattle.listed_lines.specs.ListedLines.{starting, after, shown, line_of}
 use Rattle.listing.specs.declared.ListingNumbers.{ListingNumbers}
-use Rattle.listing.specs.Listing.{refusal}
-use Rattle.unlisting.specs.declared.Reading.{Reading}
-use Rattle.unlisting.specs.declared.Reading.TheVariants.{Refused, NotInForm, Done}
+use Rattle.listing.specs.declared.Refusal.{Refusal}
+use Rattle.listing.specs.declared.Refusal.TheVariants.{Line}
+use Rattle.listing.specs.Listing.{refusal, unless_refused, numbered as listing_numbered}
 
 -- A LINE
 
@@ -43,24 +43,22 @@ read_lines (suc k) a s text =
 
 -- what a call leaves: its answer, and the memory
 pub record ReadLeft : Type 0 where
-  pub answer : Reading
+  pub answer : Result (Unit {0}) Refusal
   pub memory : List ℕ
 
-abbrev pub leaves : Reading → List ℕ → ReadLeft
+abbrev pub leaves : Result (Unit {0}) Refusal → List ℕ → ReadLeft
 leaves answer memory = record { answer = answer; memory = memory }
 
 -- the refusals of the listing, in order, 1, 3, 6; then 7, a line not in form, with its number, from 1: a line too few or too many is none; a refusal changes no
 -- word, and an accepted text sets the words of the range and no other
 unfoldable pub reading : List ℕ → List ℕ → ℕ → ℕ → ℕ → ℕ → ReadLeft
 reading text m low high state mode =
-    let number = refusal (length m) low high state mode in
     let found = read_lines (high - low) low (starting state mode) text in
-    pick (not (nat_eq number 0)) (leaves (Refused number) m)
-    (pick (nat_eq (length found.words) (high - low) && nat_eq (length found.left) 0) (leaves Done (sets m low found.words))
-    (leaves (NotInForm (length found.words + 1)) m))
+    unless_refused (refusal (length m) low high state mode) (λ (r : Refusal). leaves (Err r) m)
+    (pick (nat_eq (length found.words) (high - low) && nat_eq (length found.left) 0) (leaves (Ok tt) (sets m low found.words))
+    (leaves (Err (Line (length found.words + 1))) m))
 
--- this paper's numbers for each answer
-unfoldable pub numbered : Reading → ListingNumbers
-numbered (Refused number) = record { refusal = number; line = 0; length = 0 }
-numbered (NotInForm line) = record { refusal = 7; line = line; length = 0 }
-numbered Done = record { refusal = 0; line = 0; length = 0 }
+-- this paper's numbers for each answer: a reading writes no text
+unfoldable pub numbered : Result (Unit {0}) Refusal → ListingNumbers
+numbered (Err refusal) = listing_numbered (Err refusal)
+numbered (Ok _) = listing_numbered (Ok 0)

@@ -4,7 +4,7 @@ use Rattle.characters.specs.Characters.{code}
 use Rattle.characters.proofs.Codes.{six_small}
 use Rattle.characters.proofs.code.Goals as goal
 
-pub overflow_add-pick_u16 : goal.overflow_add-pick_u16
+pub overflow_add-pick : goal.overflow_add-pick
 unfolding code
-overflow_add-pick_u16 c = let a = c.args in
-    record { fits = rw (c.pick_u16.ensures, c.byte_at-six.ensures) (omega (arith, six_small a.c.word a.c.right a.upper)) }
+overflow_add-pick c = let a = c.args in
+    record { fits = rw (c.pick.ensures, c.byte_at-six.ensures) (omega (arith, six_small a.c.word a.c.right a.upper)) }

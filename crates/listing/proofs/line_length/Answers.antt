@@ -4,4 +4,4 @@ use Rattle.listed_lines.proofs.Line.{written}
 use Rattle.listing.proofs.line_length.Goals as goal
 
 pub returns : goal.returns
-returns c = (written _ _ _ _ refl c.put_line.ensures).place
+returns c = (written _ _ _ _ refl (rw c.new-text.ensures.empty at c.put_line.ensures.put)).place

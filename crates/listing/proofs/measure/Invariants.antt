@@ -1,5 +1,5 @@
 -- What `listing::measure`'s loop keeps: what was measured, with what is measured from here, is all that is measured. Assumes nothing.
-use Rattle.std.proofs.Common.{◌*◌, ◌-◌, ◌≤◌, ◌≡◌}
+use Rattle.std.proofs.Common.{◌*◌, ◌≤◌, ◌≡◌}
 use Rattle.std.proofs.Math.Seq.{slice}
 use Rattle.listing.specs.Measuring.{measured}
 use Rattle.listing.proofs.Going.{also}
@@ -8,10 +8,6 @@ use Rattle.listing.proofs.measure.Given as goal
 abbrev pub invariant-loop-address : goal.invariant-loop-address
 invariant-loop-address l =
     record {
-      below : l.address ≤ l.high;
       small : l.total ≤ 346 * l.address;
-      all : also l.good l.total (measured l.address l.standing (slice l.address l.high l.memory)) ≡ measured l.low l.fn.from (slice l.low l.high l.memory);
+      all : also l.total (measured l.address l.standing (slice l.address l.high l.memory)) ≡ measured l.low l.fn.from (slice l.low l.high l.memory);
     }
-
-abbrev pub decreases-loop-address : goal.decreases-loop-address
-decreases-loop-address l = l.high - l.address

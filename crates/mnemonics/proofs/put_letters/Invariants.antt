@@ -1,17 +1,12 @@
 -- What `mnemonics::put_letters`'s loop keeps: the rest of the name, put behind what was put, is all of it put. Assumes nothing.
-use Rattle.std.proofs.Common.{length, drop, ◌-◌, ◌≡◌, ◌≤◌}
+use Rattle.std.proofs.Common.{drop, ◌≡◌}
 use Rattle.text.specs.Text.{filled, puts}
 use Rattle.mnemonics.specs.Mnemonics.{letters}
-use Rattle.mnemonics.specs.RowAt.{row_at}
 use Rattle.mnemonics.proofs.put_letters.Given as goal
 
-abbrev pub invariant-loop-j : goal.invariant-loop-j
-invariant-loop-j l =
+abbrev pub invariant-loop-letter : goal.invariant-loop-letter
+invariant-loop-letter l =
     record {
-      inside : l.j ≤ 5;
-      long : length l.text ≡ length l.initial.text;
-      behind : puts (letters (drop l.j (row_at l.i).name)) (filled l.at l.text) ≡ puts (letters (row_at l.i).name) (filled l.fn.place l.fn.text);
+      same : l.text.list.ghost_name ≡ l.fn.text.list.ghost_name;
+      behind : puts (letters (drop l.letter-index l.name)) (filled l.text.place l.text.list.now) ≡ puts (letters l.name) (filled l.fn.text.place l.fn.text.list.now);
     }
-
-abbrev pub decreases-loop-j : goal.decreases-loop-j
-decreases-loop-j l = 5 - l.j

@@ -1,16 +1,21 @@
 -- `mnemonics::put_names` meets its promise: one name more is put, and at the end none is left (Going.antt). Assumes nothing.
-use Rattle.std.proofs.Common.{◌∙◌, arith}
+use Rattle.std.proofs.Common.{refl, ◌∙◌}
+use Rattle.text.specs.Text.{bytes}
+use Rattle.mnemonics.specs.Mnemonics.{rows}
 use Rattle.mnemonics.proofs.Going.{names_next, names_last}
 use Rattle.mnemonics.proofs.put_names.Goals as goal
 
-pub loop-i-preserved : goal.loop-i-preserved
-loop-i-preserved c =
-    let v = c.loop-i.invariant in
+pub loop-row-preserved : goal.loop-row-preserved
+unfolding rows bytes
+loop-row-preserved c =
+    let v = c.loop-row.invariant in
     record {
-      inside = omega arith;
-      long = c.put_name-at.auto.text ∙ v.long;
-      behind = names_next _ _ _ c.loop-i-test.true c.put_name-at.ensures ∙ v.behind;
+      same = c.put_name.ensures.same ∙ v.same;
+      behind = names_next rows _ _ _ _ _ c.loop-row-test.true refl c.put_name.ensures.put ∙ v.behind;
     }
 
 pub returns : goal.returns
-returns c = let v = c.loop-i.invariant in names_last _ _ _ c.loop-i-test.false v.inside ∙ v.behind
+unfolding rows bytes
+returns c =
+    let v = c.loop-row.invariant in
+    record { same = v.same; put = names_last rows _ _ _ c.loop-row.auto.row-index-end c.loop-row-test.false ∙ v.behind }

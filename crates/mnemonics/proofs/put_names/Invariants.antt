@@ -1,16 +1,12 @@
 -- What `mnemonics::put_names`'s loop keeps: the names of the rows from here, put behind what was put, are all names put. Assumes nothing.
-use Rattle.std.proofs.Common.{length, drop, ◌-◌, ◌≡◌, ◌≤◌}
+use Rattle.std.proofs.Common.{drop, ◌≡◌}
 use Rattle.text.specs.Text.{filled, puts}
 use Rattle.mnemonics.specs.Mnemonics.{rows, names, names_in}
 use Rattle.mnemonics.proofs.put_names.Given as goal
 
-abbrev pub invariant-loop-i : goal.invariant-loop-i
-invariant-loop-i l =
+abbrev pub invariant-loop-row : goal.invariant-loop-row
+invariant-loop-row l =
     record {
-      inside : l.i ≤ 55;
-      long : length l.text ≡ length l.initial.text;
-      behind : puts (names_in (drop l.i rows) l.word) (filled l.at l.text) ≡ puts (names l.word) (filled l.fn.place l.fn.text);
+      same : l.text.list.ghost_name ≡ l.fn.text.list.ghost_name;
+      behind : puts (names_in (drop l.row-index rows) l.word) (filled l.text.place l.text.list.now) ≡ puts (names l.word) (filled l.fn.text.place l.fn.text.list.now);
     }
-
-abbrev pub decreases-loop-i : goal.decreases-loop-i
-decreases-loop-i l = 55 - l.i

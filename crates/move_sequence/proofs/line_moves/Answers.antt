@@ -1,12 +1,13 @@
 -- `move_sequence::line_moves` meets its promise: at the loop's head the sequence from here is the sequence from the start (Line.antt), and each way through a
--- turn of the loop is one of its laws. The measure is what is left to the end. Assumes nothing.
+-- turn of the loop is one of its laws. Assumes nothing.
+use Rattle.std.specs.Prelude.{◌≡◌}
 use native.Mathlib.Omega.{arith}
 use Rattle.paper.proofs.Axis.{parted_small}
 use Rattle.registers.proofs.InRange.{line_bounds}
 use Rattle.move_sequence.proofs.Plain.{none, one}
 use Rattle.move_sequence.proofs.Line.{start, fits_reaches, over, edge, crammed, onwards}
 use Rattle.move_sequence.proofs.line_moves.Goals as goal
-use Rattle.move_sequence.proofs.line_moves.Goals.{in-Dark, in-Point+then-place-points}
+use Rattle.move_sequence.proofs.line_moves.Goals.{in-None, in-Some+then-place-points}
 
 pub end-last-requires : goal.end-last-requires
 end-last-requires c = let g = c.requires.0.motion.3 in (g.done, (line_bounds g).2)
@@ -24,30 +25,33 @@ overflow_add-reachy c = (fits_reaches c.loop-done.invariant).1
 
 pub returns-then-nextx-nexty : goal.returns-then-nextx-nexty
 returns-then-nextx-nexty c = edge c.loop-done.invariant
-    c.loop-done-test.true c.pick_u8-travelx.ensures c.pick_u8-travely.ensures
+    c.loop-done-test.true c.pick-travelx.ensures c.pick-travely.ensures
     c.wrapped-nextx.ensures c.wrapped-nexty.ensures c.if-nextx-nexty.true _ c.stays.ensures
 
-pub overflow_add-upperx-in-loop-done : goal.overflow_add-upperx-in-loop-done
-overflow_add-upperx-in-loop-done c = record { fits = omega (arith, c.loop-done.invariant.far.good.base.x, parted_small c.loop-done.invariant.axisx _ _ c.wrapped-nextx.ensures) }
+pub overflow_add-x : goal.overflow_add-x
+overflow_add-x c = record { fits = omega (arith, c.loop-done.invariant.far.good.base.x, parted_small c.loop-done.invariant.axisx _ _ c.wrapped-nextx.ensures) }
 
-pub overflow_add-uppery-in-loop-done : goal.overflow_add-uppery-in-loop-done
-overflow_add-uppery-in-loop-done c = record { fits = omega (arith, c.loop-done.invariant.far.good.base.y, parted_small c.loop-done.invariant.axisy _ _ c.wrapped-nexty.ensures) }
+pub overflow_add-y : goal.overflow_add-y
+overflow_add-y c = record { fits = omega (arith, c.loop-done.invariant.far.good.base.y, parted_small c.loop-done.invariant.axisy _ _ c.wrapped-nexty.ensures) }
 
 pub returns-else-place-points : goal.returns-else-place-points
 returns-else-place-points c = crammed c.loop-done.invariant
-    c.loop-done-test.true c.pick_u8-travelx.ensures c.pick_u8-travely.ensures
+    c.loop-done-test.true c.pick-travelx.ensures c.pick-travely.ensures
     c.wrapped-nextx.ensures c.wrapped-nexty.ensures c.if-nextx-nexty.false c.lit_at.ensures
-    c.in-Point.is c.if-place-points.false _ c.stays-else-place-points.ensures
+    c.in-Some.is c.if-place-points.false _ c.stays-else-place-points.ensures
 
 pub loop-done-preserved : goal.loop-done-preserved
 loop-done-preserved c = onwards c.loop-done.invariant
-    c.loop-done-test.true c.pick_u8-travelx.ensures c.pick_u8-travely.ensures
+    c.loop-done-test.true c.pick-travelx.ensures c.pick-travely.ensures
     c.wrapped-nextx.ensures c.wrapped-nexty.ensures c.if-nextx-nexty.false c.lit_at.ensures
     (elim c.match-lit_at.branch [
-      | in-Dark w ↦ none w.in-Dark.is w.points-is w.place-is
-      | in-Point+then-place-points w ↦ one w.in-Point.is w.if-place-points.true w.points-is w.place-is
+      | in-None w ↦ none w.in-None.is w.points-is w.place-is
+      | in-Some+then-place-points w ↦ one w.in-Some.is w.if-place-points.true w.points-is w.place-is
     ])
     c.left_over-owedx.ensures c.left_over-owedy.ensures
 
 pub returns : goal.returns
-returns c = over c.loop-done.invariant c.loop-done-test.false _ c.stays-2.ensures
+returns c =
+    let v = c.loop-done.invariant in
+    let there : c.end-last.result ≡ c.loop-done.done = omega (arith, v.reached, c.loop-done-test.false) in
+    over v c.loop-done-test.false _ (rw there at c.stays-2.ensures)

@@ -10,4 +10,4 @@ overflow_add-reach c = let a = c.args in record { fits = rw c.owed.ensures (omeg
 
 pub returns : goal.returns
 unfolding travel
-returns c = let a = c.args in rw (c.pick_u8.ensures, c.owed.ensures, advance_told a.done a.magnitude a.moves)
+returns c = let a = c.args in rw (c.pick.ensures, c.owed.ensures, advance_told a.done a.magnitude a.moves)

@@ -7,5 +7,5 @@ use Rattle.turns.proofs.command_beat.Goals as goal
 
 pub returns : goal.returns
 unfolding pick
-returns c = let a = c.args in c.data_beat.ensures ∙ sym (ap (room_for a.room) (walk_command a.l a.memory.now a.b
+returns c = let a = c.args in c.data_beat.ensures ∙ sym (ap (room_for a.room) (walk_command a.lent.loan a.lent.memory.now a.b
     a.word c.ready-ready.ensures c.requires))

@@ -1,5 +1,5 @@
 -- `turns::idle_beat` meets its promise: the tests stand in the definition's order, and behind each the next word is taken up or nothing is. Assumes nothing.
-use Rattle.std.proofs.Common.{refl, sym, ap, ◌∙◌}
+use Rattle.std.proofs.Common.{rules, refl, sym, ap, ◌∙◌}
 use Rattle.words.specs.Words.{pick}
 use Rattle.touches.specs.declared.Resting.TheVariants.{External}
 use Rattle.touches.specs.Touches.{rest, walk}
@@ -8,16 +8,16 @@ use Rattle.turns.proofs.Walk.{walk_idle, idle_word, idle_not}
 use Rattle.turns.proofs.idle_beat.Goals as goal
 
 -- a stop that holds its word
-pub returns-in-Word : goal.returns-in-Word
+pub returns-in_ok-word : goal.returns-in_ok-word
 unfolding walk pick room_for
-returns-in-Word c =
-    sym (idle_word _ _ c.args.room c.args.b (λ w. rest (External w)) (walk_idle _ _ c.args.b c.if-b.true refl) c.taken.ensures c.in-Word.is)
+returns-in_ok-word c =
+    sym (idle_word _ _ c.args.room c.args.b (λ w. rest (External w)) (walk_idle _ _ c.args.b c.if-b.true refl) c.taken.ensures c.in_ok-word.was)
 
 -- a stop whose word can't be fetched
-pub returns-in-Not : goal.returns-in-Not
+pub returns-in_err-word : goal.returns-in_err-word
 unfolding pick
-returns-in-Not c =
-    sym (idle_not _ _ c.args.room c.args.b (λ w. rest (External w)) (walk_idle _ _ c.args.b c.if-b.true refl) c.taken.ensures c.in-Not.is)
+returns-in_err-word c =
+    rw (idle_not _ _ c.args.room c.args.b (λ w. rest (External w)) (walk_idle _ _ c.args.b c.if-b.true refl) c.taken.ensures c.in_err-word.was) (search rules)
 
 -- the mode is unusable
 pub returns-then-unusable : goal.returns-then-unusable
@@ -26,18 +26,18 @@ returns-then-unusable c =
     sym (ap (room_for c.args.room) (walk_idle _ _ c.args.b c.if-b.false (sym c.unusable.ensures ∙ c.if-unusable.true)))
 
 -- a command
-pub returns-in-Word-taken : goal.returns-in-Word-taken
+pub returns-in_ok-word-2 : goal.returns-in_ok-word-2
 unfolding pick
-returns-in-Word-taken c =
+returns-in_ok-word-2 c =
     let usable = sym c.unusable.ensures ∙ c.if-unusable.false in
     c.command_beat.ensures
     ∙ sym (idle_word _ _ c.args.room c.args.b (command_beat c.args.b) (walk_idle _ _ c.args.b c.if-b.false usable)
-    c.taken-else-unusable.ensures c.in-Word-taken.is)
+    c.taken-else-unusable.ensures c.in_ok-word-2.was)
 
 -- a command whose word can't be fetched
-pub returns-in-Not-taken : goal.returns-in-Not-taken
+pub returns-in_err-word-2 : goal.returns-in_err-word-2
 unfolding pick
-returns-in-Not-taken c =
+returns-in_err-word-2 c =
     let usable = sym c.unusable.ensures ∙ c.if-unusable.false in
-    sym (idle_not _ _ c.args.room c.args.b (command_beat c.args.b) (walk_idle _ _ c.args.b c.if-b.false usable)
-    c.taken-else-unusable.ensures c.in-Not-taken.is)
+    rw (idle_not _ _ c.args.room c.args.b (command_beat c.args.b) (walk_idle _ _ c.args.b c.if-b.false usable)
+    c.taken-else-unusable.ensures c.in_err-word-2.was) (search rules)

@@ -1,9 +1,6 @@
--- Each turn looks at one byte, and counts at most that.
-use Rattle.std.proofs.Common.{length, ◌-◌, ◌≤◌}
+-- No more lines end than bytes were passed.
+use Rattle.std.proofs.Common.{◌≤◌}
 use Rattle.list.proofs.faults.lines_before.Given as goal
 
-abbrev pub invariant-loop-i : goal.invariant-loop-i
-invariant-loop-i l = (l.count ≤ l.i) × (l.i ≤ length l.input)
-
-abbrev pub decreases-loop-i : goal.decreases-loop-i
-decreases-loop-i l = length l.input - l.i
+abbrev pub invariant-loop-byte : goal.invariant-loop-byte
+invariant-loop-byte l = l.count ≤ l.byte-index

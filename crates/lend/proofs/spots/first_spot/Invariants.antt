@@ -1,6 +1,0 @@
--- Each turn looks at one byte.
-use Rattle.std.proofs.Common.{length, ◌-◌}
-use Rattle.lend.proofs.spots.first_spot.Given as goal
-
-abbrev pub decreases-loop-i : goal.decreases-loop-i
-decreases-loop-i l = length l.input - l.i

@@ -1,6 +1,0 @@
--- Each turn reads one byte.
-use Rattle.std.proofs.Common.{length, ◌-◌}
-use Rattle.replay.proofs.input.expect.Given as goal
-
-abbrev pub decreases-loop-i : goal.decreases-loop-i
-decreases-loop-i l = length l.bytes - l.i

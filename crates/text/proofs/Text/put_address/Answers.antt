@@ -1,0 +1,8 @@
+-- `Text::put_address` meets its promise: the four digits that a word has are put behind the first. Assumes nothing.
+use Rattle.text.specs.Text.{octal_address}
+use Rattle.text.proofs.Puts.{adds_behind}
+use Rattle.text.proofs.Text.put_address.Goals as goal
+
+pub returns : goal.returns
+unfolding octal_address
+returns c = adds_behind _ _ c.put_octal_digit.ensures c.put_word.ensures

@@ -43,23 +43,19 @@ fn refused(r: Registers, number: u8) -> Ran
 pub fn call(r: Registers, l: Loan, memory: &mut [u16], points: &mut [u64], budget: u32) -> Ran
     ensures { leaves result memory.new points.new ≡ call budget l r memory.old points.old }
 {
-    if memory.len() == 32768 {
-        if budget <= 65535 {
-            if loan::fair_loan(l) {
-                if registers::in_range(r) {
-                    enter(r, l, memory, points, budget)
-                } else {
-                    refused(r, 4)
-                }
-            } else {
-                refused(r, 3)
-            }
-        } else {
-            refused(r, 2)
-        }
-    } else {
-        refused(r, 1)
+    if memory.len() != 32768 {
+        return refused(r, 1);
     }
+    if budget > 65535 {
+        return refused(r, 2);
+    }
+    if !loan::fair_loan(l) {
+        return refused(r, 3);
+    }
+    if !registers::in_range(r) {
+        return refused(r, 4);
+    }
+    enter(r, l, memory, points, budget)
 }
 
 // The numbers that document 01 gives an answer.

@@ -61,7 +61,8 @@ fn mode_set(
     }
 }
 
-// Scale and pen by their enable bits, as words 0, 2 and 3 and the character generator's parameter character share them.
+// Scale and pen by their enable bits, as words 0, 2 and 3 and the character generator's parameter character share them. One line each: a function over the places
+// would be called with three numbers.
 #[tactic(auto, unfolding(crate::specs::ControlWords::scale_by))]
 pub fn scale_by(word: u16, old: u8) -> u8
     ensures { result ≡ scale_by word old }

@@ -1,4 +1,5 @@
-// The static library for other languages: the five calls of the crate `exports`, under the names that C links. Each states the clauses of the call that it makes.
+// The static library for other languages: the five calls of the crate `exports`, under the names that C links. A crate is a library
+// for other crates or a static one for C, so each call is written again here, and states the clauses of the call that it makes.
 #![tactic(auto)]
 
 ghost use Rattle.std.specs.Prelude.{◌≡◌};

@@ -15,9 +15,6 @@ use std::io;
 use std::io::Print;
 use text::Text;
 
-// A lesson may have this many bytes and not one more, with its comments.
-const LONGEST: usize = 262144;
-
 type Memory = [u16; 32768];
 
 // Takes the arguments. The first that cannot be taken is told, or the option whose value does not come.
@@ -121,11 +118,11 @@ fn start(rt: HostRuntime) -> io::Result<()> {
     let Some(a) = asked(&rt, &err)? else {
         return Ok(());
     };
-    let mut input = vec![in rt.alloc(); 0u8; LONGEST + 1]?;
+    let mut input = vec![in rt.alloc(); 0u8; source::LONGEST + 1]?;
     let count = console::read_full(&rt, &mut input)?;
     if a.shown.hint {
         hint(&rt, a, &input[..count])
-    } else if count <= LONGEST {
+    } else if count <= source::LONGEST {
         run(&rt, &err, a, &input[..count])
     } else {
         faults::tell_long(&err)

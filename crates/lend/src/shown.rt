@@ -89,7 +89,7 @@ fn write_bytes(out: &impl Print, row: &[u16]) -> io::Result<()> {
     )
 }
 
-// Writes what an unfinished character waits for, by its stage.
+// Writes what an unfinished character waits for, by its stage, a row's number as the kind of motion is.
 fn write_stage(out: &impl Print, row: &[u16], stage: u16) -> io::Result<()> {
     match stage {
         1 => write_names(
@@ -146,7 +146,7 @@ pub(crate) fn write_registers(out: &impl Print, r: Registers) -> io::Result<()> 
         ],
         &row[numbers::ADDRESS..],
     )?;
-    // The kinds are the numbers of a row.
+    // The kinds are numbers, as the replay format has them.
     let motion = &row[numbers::KIND + 1..];
     match row[numbers::KIND] {
         1 => write_line(out, motion),

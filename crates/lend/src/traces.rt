@@ -60,7 +60,7 @@ fn seen(r: Registers) -> View {
     }
 }
 
-// Whether a word has a second one: a jump, or data of a point, a vector or a vector continue.
+// Whether a word has a second one: a jump, or data of a point, a vector or a vector continue. The mode is a number, as in the registers.
 fn is_long(v: View, word: u16) -> bool {
     if v.datastate {
         matches!(v.mode, 0 | 2 | 3)

@@ -13,10 +13,7 @@ use std::env::Env;
 use std::io;
 use std::io::{Input, Print};
 
-// A lesson may have this many bytes and not one more, with its comments.
-const LESSON: usize = 262144;
-
-// And a listing this many: that of all of memory has fewer.
+// A listing may have this many bytes and not one more: that of all of memory has fewer.
 const LISTING: usize = 1500000;
 
 type Memory = [u16; 32768];
@@ -51,9 +48,9 @@ fn start_list(rt: &(impl Alloc + Env + Input + Print), err: &impl Print) -> io::
         return Ok(());
     };
     // One byte more shows that there are too many.
-    let mut lesson = vec![in rt.alloc(); 0u8; LESSON + 1]?;
+    let mut lesson = vec![in rt.alloc(); 0u8; source::LONGEST + 1]?;
     let count = console::read_full(rt, &mut lesson)?;
-    if count <= LESSON {
+    if count <= source::LONGEST {
         list(rt, err, range, start, &lesson[..count])
     } else {
         console::write(

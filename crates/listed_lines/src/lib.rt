@@ -11,7 +11,7 @@ use text::Text;
 #[derive(Clone, Copy)]
 pub struct Standing {
     pub datastate: bool,
-    // A number, as the register is.
+    // A number, as the register is, and so what is asked of it below is asked of numbers.
     pub mode: u8,
     // The word is the second one of its command.
     pub second: bool,

@@ -13,12 +13,19 @@ use runs::Answer;
 use text::Text;
 use touches::Why;
 
+// The flags of the two edges, as the registers have them.
+#[derive(Clone, Copy)]
+struct EdgeFlags {
+    vertical: bool,
+    horizontal: bool,
+}
+
 #[tactic(auto, unfolding(crate::specs::Meanings::edges, words::specs::Words::pick, text::specs::Text::bytes))]
-fn put_edges(vertical: bool, horizontal: bool, text: &mut Text)
-    ensures { Adds text.old text.new (edges vertical horizontal) }
+fn put_edges(on: EdgeFlags, text: &mut Text)
+    ensures { Adds text.old text.new (edges on.vertical on.horizontal) }
 {
-    if vertical {
-        if horizontal {
+    if on.vertical {
+        if on.horizontal {
             text.put_all(b"both edges");
         } else {
             text.put_all(b"vertical edge");
@@ -59,23 +66,23 @@ fn put_failure(why: Why, points: usize, text: &mut Text)
 }
 
 #[tactic(auto, unfolding(crate::specs::Meanings::meaning, text::specs::Text::bytes))]
-fn put_edge_stop(vertical: bool, horizontal: bool, text: &mut Text)
-    ensures { Adds text.old text.new (meaning Ending.EdgeStop 0 vertical horizontal) }
+fn put_edge_stop(on: EdgeFlags, text: &mut Text)
+    ensures { Adds text.old text.new (meaning Ending.EdgeStop 0 on.vertical on.horizontal) }
 {
     text.put_all(b"the beam left the screen, ");
-    put_edges(vertical, horizontal, text)
+    put_edges(on, text)
 }
 
 #[tactic(auto, unfolding(crate::specs::Meanings::meaning, text::specs::Text::bytes))]
-fn put_meaning(ending: Ending, points: usize, vertical: bool, horizontal: bool, text: &mut Text)
-    ensures { Adds text.old text.new (meaning ending points vertical horizontal) }
+fn put_meaning(ending: Ending, points: usize, on: EdgeFlags, text: &mut Text)
+    ensures { Adds text.old text.new (meaning ending points on.vertical on.horizontal) }
 {
     match ending {
         Ending::NotRunning => text.put_all(b"the display was not running"),
         Ending::BudgetSpent => text.put_all(b"no stop word was met"),
         Ending::InternalStop => text.put_all(b"a stop word"),
         Ending::ExternalStop => text.put_all(b"the host asked it to stop"),
-        Ending::EdgeStop => put_edge_stop(vertical, horizontal, text),
+        Ending::EdgeStop => put_edge_stop(on, text),
         Ending::UnusableMode => {
             text.put_all(b"data in mode 7 or an unused control character, which cannot be used")
         }
@@ -107,15 +114,8 @@ fn put_beats(beats: u32, text: &mut Text)
 }
 
 #[tactic(auto, unfolding(crate::specs::Meanings::ended_sentence, text::specs::Text::bytes))]
-fn put_ended(
-    ending: Ending,
-    beats: u32,
-    points: usize,
-    vertical: bool,
-    horizontal: bool,
-    text: &mut Text,
-)
-    ensures { Adds text.old text.new (ended_sentence ending beats points vertical horizontal) }
+fn put_ended(ending: Ending, beats: u32, points: usize, on: EdgeFlags, text: &mut Text)
+    ensures { Adds text.old text.new (ended_sentence ending beats points on.vertical on.horizontal) }
 {
     text.put_all(b"ending ");
     let told = endings::ending_numbers(ending);
@@ -123,7 +123,7 @@ fn put_ended(
     put_stopped(told, text);
     text.put_all(b" after ");
     put_beats(beats, text);
-    put_meaning(ending, points, vertical, horizontal, text);
+    put_meaning(ending, points, on, text);
     text.put(b'\n');
 }
 
@@ -132,15 +132,15 @@ fn put_ended(
 pub fn put_sentence(answer: Answer, r: Registers, text: &mut Text)
     ensures { Adds text.old text.new (sentence answer r) }
 {
-    let vertical = r.base.vertical;
-    let horizontal = r.base.horizontal;
+    let on = EdgeFlags {
+        vertical: r.base.vertical,
+        horizontal: r.base.horizontal,
+    };
     match answer {
         Answer::Refused(number) => {
             text.put_all(b"refused ");
             text.put_number(number as u32, b'\n');
         }
-        Answer::Ended(ending, beats, points) => {
-            put_ended(ending, beats, points, vertical, horizontal, text)
-        }
+        Answer::Ended(ending, beats, points) => { put_ended(ending, beats, points, on, text) }
     }
 }

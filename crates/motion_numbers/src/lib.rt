@@ -9,8 +9,8 @@ ghost use Rattle.motion_numbers.specs.MotionNumbers.{line_numbers, bytes_numbers
 use addresses::DisplayAddress;
 use registers::{ByteMotion, CharacterMotion, LineMotion, Motion, Stage};
 
-// The places are numbers and no enum, because the C interface and the replay format have the row as an array and name them so.
-// How many numbers a row of registers has.
+// How many numbers a row of registers has. Its places are numbers and no enum, and so are the kinds and stages in it, because the C interface and the replay format
+// have the row as an array.
 pub const ROW: usize = 44;
 
 // The place of the kind of motion, from 0: 0 nothing, 1 a line, 2 bytes, 3 a character.

@@ -5,7 +5,7 @@ use mathlib.Core.Bool.{Bool, true, false, not, ◌&&◌, ◌||◌}
 use mathlib.Core.List.{List}
 use native.Mathlib.Omega.{arith}
 use lib.ListN.{length}
-use Rattle.std.specs.Prelude.{Option, Some}
+use Rattle.std.specs.Prelude.{Option}
 use Rattle.words.proofs.Laws.{pick_case}
 use Rattle.addresses.specs.declared.DisplayAddress.{DisplayAddress}
 use Rattle.paper.specs.declared.Reached.{Reached}
@@ -24,7 +24,7 @@ use Rattle.moves.specs.declared.Move.{Move}
 use Rattle.moves.specs.declared.Moving.TheVariants.{Going}
 use Rattle.moves.specs.DataWords.{byte_next, byte_move, next_move, moved_x, moved_y}
 use Rattle.move_sequence.specs.PlainMoves.{goes_on, plain}
-use Rattle.move_sequence.proofs.Plain.{onto, tested, Shown, Put, Far, violates, fills, goes}
+use Rattle.move_sequence.proofs.Plain.{onto, tested, Shown, PutAt, PutNowhere, Far, violates, fills, goes}
 
 -- a move that the motion goes on behind is plain exactly where nothing is violated and nothing escapes
 unescaped : (going escape continues x y : Bool) → going ≡ true → continues ≡ false →
@@ -149,11 +149,12 @@ module _ {n₀ : ℕ} {r₀ : Registers} {ps₀ : List ℕ} {place₀ : ℕ} {b 
       lights = rw (ap (λ (m : Move). m.lastword) moves ∙ told lastword t travel) el
 
       -- without room for its point it is not made
-      pub crammed : {value : ℕ} → lit ≡ Some value → length ps ≤ place → Shows
-      crammed u f = fills a.far fewer next_move_lem plainly there_x there_y lights (rw u (omega arith))
+      pub crammed : {ps' : List ℕ} {place' : ℕ} → PutNowhere lit ps place ps' place' →
+          Shown n₀ r₀ ps₀ place₀ b n (upperx + lowx) (uppery + lowy) (Bytes lastword t) ps' place'
+      crammed w = fills a.far fewer next_move_lem plainly there_x there_y lights w
 
       -- with room for it, it is made
-      pub onwards : {ps' : List ℕ} {place' : ℕ} → Put lit ps place ps' place' →
+      pub onwards : {ps' : List ℕ} {place' : ℕ} → PutAt lit ps place ps' place' →
           Along n₀ r₀ ps₀ place₀ b placesx placesy travel upperx uppery lastword (n - 1) nextx.value nexty.value next ps' place'
       onwards {ps'} {place'} put =
           record {

@@ -10,7 +10,7 @@ use native.Mathlib.Numerals.{add-one}
 use native.Mathlib.Omega.{arith}
 use mir.Syntax.{w16, w32}
 use mir.Val.{Fits}
-use Rattle.std.specs.Prelude.{nat_eq, nat_lt, nat_le, Option, Some}
+use Rattle.std.specs.Prelude.{nat_eq, nat_lt, nat_le, Option}
 use lib.ListN.{length}
 use borrow.Author.Tests.{ltb-true, ltb-false, lt-ltb, le-ltb, lt-leb}
 use Rattle.words.specs.Words.{pick}
@@ -35,7 +35,7 @@ use Rattle.moves.specs.declared.Moving.TheVariants.{Going}
 use Rattle.moves.specs.DataWords.{with_done, line_next, line_move, next_move, moved_x, moved_y}
 use Rattle.moves.proofs.Kept.{waits}
 use Rattle.move_sequence.specs.PlainMoves.{goes_on, plain}
-use Rattle.move_sequence.proofs.Plain.{onto, at, tested, Shown, Put, Far, spent, violates, fills, goes}
+use Rattle.move_sequence.proofs.Plain.{onto, at, tested, Shown, PutAt, PutNowhere, Far, spent, violates, fills, goes}
 
 -- the registers with the beam at x and y and k moves of the line done
 abbrev on_line : Base → DisplayAddress → LineMotion → ℕ → ℕ → ℕ → Registers
@@ -229,11 +229,12 @@ module _ {b : Base} {lastword : DisplayAddress} {l : LineMotion} {ps₀ : List �
       asked = el
 
       -- without room for its point it is not made
-      pub crammed : {value : ℕ} → lit ≡ Some value → length ps ≤ place → Shows
-      crammed u f = fills a.far some (next b lastword l done) plainly there_x there_y asked (rw u (omega arith))
+      pub crammed : {ps' : List ℕ} {place' : ℕ} → PutNowhere lit ps place ps' place' →
+          Shown limit (record { base = b; motion = Line lastword l }) ps₀ from b (limit - (done - l.done)) (upperx + lowx) (uppery + lowy) (Line lastword (with_done l done)) ps' place'
+      crammed w = fills a.far some (next b lastword l done) plainly there_x there_y asked w
 
       -- with room for it, it is made
-      pub onwards : {ps' : List ℕ} {place' owedx' owedy' : ℕ} → Put lit ps place ps' place' →
+      pub onwards : {ps' : List ℕ} {place' owedx' owedy' : ℕ} → PutAt lit ps place ps' place' →
           owedx' ≡ pick (nat_le twice (owedx + 2 * l.magx)) (owedx + 2 * l.magx - twice) (owedx + 2 * l.magx) →
           owedy' ≡ pick (nat_le twice (owedy + 2 * l.magy)) (owedy + 2 * l.magy - twice) (owedy + 2 * l.magy) →
           Along b lastword l ps₀ from limit placesx placesy reach last upperx uppery twice ps' nextx.value nexty.value owedx' owedy' (done + 1) place'

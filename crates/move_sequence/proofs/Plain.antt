@@ -4,11 +4,10 @@ use Prim.Native.Nat.{ℕ, suc, ◌+◌, ◌≤◌, ◌<◌}
 use mathlib.Core.Path.{◌≡◌, ap, sym, ◌∙◌}
 use mathlib.Core.Bool.{Bool, true, false, not, ◌&&◌, ◌||◌, and-true, and-false, or-false}
 use mathlib.Core.List.{List}
-use native.Mathlib.Omega.{arith}
-use Rattle.std.specs.Prelude.{nat_le, Option, None, Some}
-use lib.ListN.{length, set}
+use Rattle.std.specs.Prelude.{nat_le, Option, None}
+use lib.ListN.{length}
 use lib.Seq.{sets, length-sets}
-use borrow.Author.Tests.{not-true, le-leb, lt-leb}
+use borrow.Author.Tests.{not-true, le-leb, lt-leb, leb-true, leb-false}
 use Rattle.words.specs.Words.{pick}
 use Rattle.words.proofs.Laws.{both}
 use Rattle.paper.specs.declared.Reached.{Reached}
@@ -22,7 +21,9 @@ use Rattle.moves.specs.declared.Moving.TheVariants.{Going}
 use Rattle.beam.specs.DataWords.{beam_at, lit_at, points, arrived}
 use Rattle.moves.specs.DataWords.{next_move, moved_x, moved_y, displaced}
 use Rattle.moves.proofs.KeptCharacters.{displaced_good}
+use Rattle.move_sequence.specs.declared.PointList.{PointList}
 use Rattle.move_sequence.specs.declared.Sequence.{Sequence}
+use Rattle.move_sequence.specs.Points.{Put}
 use Rattle.move_sequence.specs.PlainMoves.{goes_on, plain, leaves, stays, on_move, sequence}
 
 -- a coordinate that a move takes to the low bits of `end`, the upper ones kept
@@ -112,24 +113,39 @@ pub record Far (n₀ : ℕ) (r₀ : Registers) (ps₀ : List ℕ) (place₀ : �
 
 -- a call that returns here shows the sequence
 abbrev pub Shown : ℕ → Registers → List ℕ → ℕ → Base → ℕ → ℕ → ℕ → Motion → List ℕ → ℕ → Type 0
-Shown n₀ r₀ ps₀ place₀ b n x y m ps place = (t : Sequence) → t ≡ record { registers = at b x y m; place = place; left = n } → leaves t ps ≡ sequence n₀ r₀ ps₀ place₀
+Shown n₀ r₀ ps₀ place₀ b n x y m ps place = (t : Sequence) → t ≡ record { registers = at b x y m; left = n } → leaves t place ps ≡ sequence n₀ r₀ ps₀ place₀
 
--- what the code leaves of the point list and the next place in it: both as they were, or with one point more
-pub data Put (lit : Option ℕ) (ps : List ℕ) (place : ℕ) (ps' : List ℕ) (place' : ℕ) : Type 0 where
-  none : lit ≡ None → ps' ≡ ps → place' ≡ place → Put lit ps place ps' place'
-  one : {value : ℕ} → lit ≡ Some value → place < length ps → ps' ≡ set ps place value → place' ≡ place + 1 → Put lit ps place ps' place'
+-- where a point is put, the list and the next place in it go on with it
+pub record PutAt (lit : Option ℕ) (ps : List ℕ) (place : ℕ) (ps' : List ℕ) (place' : ℕ) : Type 0 where
+  pub room : place + length (points lit) ≤ length ps
+  pub list : ps' ≡ sets ps place (points lit)
+  pub next : place' ≡ place + length (points lit)
 
-put_at : (lit : Option ℕ) (ps : List ℕ) (place : ℕ) (ps' : List ℕ) (place' : ℕ) → place ≤ length ps → Put lit ps place ps' place' →
-    (place + length (points lit) ≤ length ps) × (ps' ≡ sets ps place (points lit)) × (place' ≡ place + length (points lit))
-put_at lit ps place ps' place' room (none u eps eplace) = rw u (omega arith, eps, omega arith)
-put_at lit ps place ps' place' room (one u less eps eplace) = rw u (omega arith, eps, omega arith)
+pub put_at : {p p' : PointList} {lit : Option ℕ} {put : Bool} → Put p p' lit put → put ≡ true → PutAt lit p.list.now p.place p'.list.now p'.place
+unfolding pick
+put_at w e = record { room = leb-true _ _ (sym w.told ∙ e); list = w.list ∙ rw e; next = w.place ∙ rw e }
+
+pub put_there : {p p' : PointList} {lit : Option ℕ} {put : Bool} → Put p p' lit put → p.place + length (points lit) ≤ length p.list.now →
+    PutAt lit p.list.now p.place p'.list.now p'.place
+put_there w h = put_at w (w.told ∙ le-leb _ _ h)
+
+-- where it is not, they stay
+pub record PutNowhere (lit : Option ℕ) (ps : List ℕ) (place : ℕ) (ps' : List ℕ) (place' : ℕ) : Type 0 where
+  pub full : length ps < place + length (points lit)
+  pub list : ps' ≡ ps
+  pub next : place' ≡ place
+
+pub put_nowhere : {p p' : PointList} {lit : Option ℕ} {put : Bool} → Put p p' lit put → put ≡ false →
+    PutNowhere lit p.list.now p.place p'.list.now p'.place
+unfolding pick
+put_nowhere w e = record { full = leb-false _ _ (sym w.told ∙ e); list = w.list ∙ rw e; next = w.place ∙ rw e }
 
 module _ {n₀ : ℕ} {r₀ : Registers} {ps₀ : List ℕ} {place₀ : ℕ} {b : Base} {n x y : ℕ} {m : Motion} {ps : List ℕ} {place : ℕ}
     (h : Far n₀ r₀ ps₀ place₀ b n x y m ps place) where
   -- where the sequence stays here, the call shows it
   shows : sequence n (at b x y m) ps place ≡ stays n (at b x y m) ps place →
       Shown n₀ r₀ ps₀ place₀ b n x y m ps place
-  shows e t q = ap (λ (s : Sequence). leaves s ps) q ∙ sym (h.whole ∙ e)
+  shows e t q = ap (λ (s : Sequence). leaves s place ps) q ∙ sym (h.whole ∙ e)
 
   pub spent : n ≡ 0 → Shown n₀ r₀ ps₀ place₀ b n x y m ps place
   unfolding sequence
@@ -147,16 +163,15 @@ module _ {n₀ : ℕ} {r₀ : Registers} {ps₀ : List ℕ} {place₀ : ℕ} {b 
       unfolding lit_at
       same_lit = rw (ex, ey) (sym el)
 
-      pub fills : length ps < place + length (points lit) → Shown n₀ r₀ ps₀ place₀ b n x y m ps place
-      fills f = shows (rw some (full n' (at b x y m) ps place v q p (rw same_lit f)))
+      pub fills : {ps' : List ℕ} {place' : ℕ} → PutNowhere lit ps place ps' place' → Shown n₀ r₀ ps₀ place₀ b n x y m ps' place'
+      fills w = rw (w.list, w.next) (shows (rw some (full n' (at b x y m) ps place v q p (rw same_lit w.full))))
 
-      pub goes : {ps' : List ℕ} {place' : ℕ} → Put lit ps place ps' place' → Far n₀ r₀ ps₀ place₀ b n' nextx.value nexty.value v.motion ps' place'
+      pub goes : {ps' : List ℕ} {place' : ℕ} → PutAt lit ps place ps' place' → Far n₀ r₀ ps₀ place₀ b n' nextx.value nexty.value v.motion ps' place'
       goes {ps'} {place'} w =
-          let f = put_at lit ps place ps' place' h.room w in
-          rw (f.1, f.2)
+          rw (w.list, w.next)
           record {
             size = length-sets ps place (points lit) ∙ h.size;
-            room = rw length-sets f.0;
+            room = rw length-sets w.room;
             good = rw (plainly (beam_at b x y) v p, ex, ey) at (displaced_good (at b x y m) v h.good q).registers;
-            whole = h.whole ∙ rw some (rw (same_lit, ex, ey) at (moves_on n' (at b x y m) ps place v q p (rw same_lit f.0)));
+            whole = h.whole ∙ rw some (rw (same_lit, ex, ey) at (moves_on n' (at b x y m) ps place v q p (rw same_lit w.room)));
           }

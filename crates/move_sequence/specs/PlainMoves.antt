@@ -30,17 +30,18 @@ plain b v =
     && not (moved_x b v).violated
     && not (moved_y b v).violated
 
--- what a sequence leaves, with the point list
+-- what a sequence leaves, with the point list and the next place in it
 pub record SequenceLeft : Type 0 where
   pub sequence : Sequence
+  pub place : ℕ
   pub points : List ℕ
 
-abbrev pub leaves : Sequence → List ℕ → SequenceLeft
-leaves s ps = record { sequence = s; points = ps }
+abbrev pub leaves : Sequence → ℕ → List ℕ → SequenceLeft
+leaves s place ps = record { sequence = s; place = place; points = ps }
 
 -- the sequence ends here, with so many moves not made
 abbrev pub stays : ℕ → Registers → List ℕ → ℕ → SequenceLeft
-stays n r ps place = leaves (record { registers = r; place = place; left = n }) ps
+stays n r ps place = leaves (record { registers = r; left = n }) place ps
 
 -- how a sequence goes on, by the registers, the point list and the next place in it
 abbrev pub Go : Type 0

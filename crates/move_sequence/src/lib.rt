@@ -1,5 +1,5 @@
-// Plain moves, one after another: a line's or a byte's moves that violate nothing, escape nothing and have room for their point. Between two of them a
-// run's other tests decide nothing, so they are made in a loop that changes the beam and a count only.
+// The point list that a run fills, and plain moves, one after another: a line's or a byte's moves that violate nothing, escape nothing and have room for their
+// point. Between two of them a run's other tests decide nothing, so they are made in a loop that changes the beam, the points and a count only.
 #![tactic(auto)]
 
 ghost use Rattle.std.specs.Prelude.{◌≡◌, ◌+◌, ◌-◌, ◌≤◌, ◌<◌, nat_le, nat_lt, length};
@@ -12,24 +12,66 @@ ghost use Rattle.move_sequence.specs.PlainMoves.{sequence, leaves};
 use addresses::DisplayAddress;
 use registers::{Base, ByteMotion, LineMotion, Motion, Registers};
 
-// What a sequence leaves: the registers, the next place in the point list, and how many moves of its limit it did not make.
+// A point list, lent for a run, and the next place in it. No type says that the place is inside the list or at its end: `put` and `room` ask it.
+#[derive(Drop)]
+pub struct PointList<'a> {
+    pub list: &'a mut [u64],
+    pub place: usize,
+}
+
+impl<'a> PointList<'a> {
+    ghost use Rattle.move_sequence.specs.Points.{Put};
+
+    // A list before anything is put into it.
+    pub fn new(list: &'a mut [u64]) -> PointList<'a>
+        ensures same { result.list.ghost_name ≡ list.entry.ghost_name }
+        ensures whole { (result.list.now ≡ list.old) × (result.place ≡ 0) }
+    {
+        PointList { list, place: 0 }
+    }
+
+    // How many points it has room for.
+    pub fn room(&self) -> usize
+        requires { self.now.place ≤ length self.now.list.now }
+        ensures { result ≡ length self.now.list.now - self.now.place }
+    {
+        self.list.len() - self.place
+    }
+
+    // Puts the point, if there is one, at the next place, and answers whether there was room.
+    #[tactic(auto, unfolding(words::specs::Words::pick))]
+    pub fn put(&mut self, lit: Option<u64>) -> bool
+        requires { self.old.place ≤ length self.old.list.now }
+        ensures { Put self.old self.new lit result }
+    {
+        match lit {
+            None => true,
+            Some(value) => {
+                if self.place < self.list.len() {
+                    self.list[self.place] = value;
+                    self.place += 1;
+                    true
+                } else {
+                    false
+                }
+            }
+        }
+    }
+}
+
+// What a sequence leaves: the registers, and how many moves of its limit it did not make.
 #[derive(Clone, Copy)]
 pub struct Sequence {
     pub registers: Registers,
-    pub place: usize,
     pub left: u32,
 }
 
-fn stays(b: Base, x: u16, y: u16, motion: Motion, place: usize, left: u32) -> Sequence
-    ensures { result ≡ record { registers = record { base = beam_at b x y; motion = motion }; place = place; left = left } }
+fn stays(b: Base, x: u16, y: u16, motion: Motion, left: u32) -> Sequence
+    ensures { result ≡ record { registers = record { base = beam_at b x y; motion = motion }; left = left } }
 {
     let base = Base { x, y, ..b };
     let registers = Registers { base, motion };
-    Sequence {
-        registers,
-        place,
-        left,
-    }
+    Sequence { registers, left }
 }
 
 // How many of a line's moves may be done before its last, by the limit.
@@ -60,12 +102,12 @@ pub fn line_moves(
     b: Base,
     lastword: DisplayAddress,
     l: LineMotion,
-    points: &mut [u64],
-    from: usize,
+    points: &mut PointList<'_>,
     limit: u32,
 ) -> Sequence
-    requires { Good (record { base = b; motion = Line lastword l }) × (from ≤ length points.old) }
-    ensures { leaves result points.new ≡ sequence limit (record { base = b; motion = Line lastword l }) points.old from }
+    requires { Good (record { base = b; motion = Line lastword l }) × (points.old.place ≤ length points.old.list.now) }
+    ensures same { points.new.list.ghost_name ≡ points.old.list.ghost_name }
+    ensures left { leaves result points.new.place points.new.list.now ≡ sequence limit (record { base = b; motion = Line lastword l }) points.old.list.now points.old.place }
 {
     let placesx = paper::places(beam::field_x(b));
     let placesy = paper::places(beam::field_y(b));
@@ -78,7 +120,6 @@ pub fn line_moves(
     let mut owedx = paper::owed(l.done, l.magx, l.moves);
     let mut owedy = paper::owed(l.done, l.magy, l.moves);
     let twice = 2 * (l.moves as u32);
-    let mut place = from;
     for done in l.done..last {
         let reachx = owedx + 2 * (l.magx as u32);
         let reachy = owedy + 2 * (l.magy as u32);
@@ -93,30 +134,20 @@ pub fn line_moves(
                 upperx + lowx,
                 uppery + lowy,
                 rest,
-                place,
                 limit - ((done - l.done) as u32),
             );
         }
         let x = upperx + nextx.value;
         let y = uppery + nexty.value;
-        match beam::lit_at(b, lastword, x, y, l.lit, false) {
-            None => {}
-            Some(value) => {
-                if place < points.len() {
-                    points[place] = value;
-                    place += 1;
-                } else {
-                    let rest = Motion::Line(lastword, LineMotion { done, ..l });
-                    return stays(
-                        b,
-                        upperx + lowx,
-                        uppery + lowy,
-                        rest,
-                        place,
-                        limit - ((done - l.done) as u32),
-                    );
-                }
-            }
+        if !points.put(beam::lit_at(b, lastword, x, y, l.lit, false)) {
+            let rest = Motion::Line(lastword, LineMotion { done, ..l });
+            return stays(
+                b,
+                upperx + lowx,
+                uppery + lowy,
+                rest,
+                limit - ((done - l.done) as u32),
+            );
         }
         lowx = nextx.value;
         lowy = nexty.value;
@@ -129,7 +160,6 @@ pub fn line_moves(
         upperx + lowx,
         uppery + lowy,
         rest,
-        place,
         limit - ((last - l.done) as u32),
     )
 }
@@ -140,12 +170,12 @@ pub fn byte_moves(
     b: Base,
     lastword: DisplayAddress,
     t: ByteMotion,
-    points: &mut [u64],
-    from: usize,
+    points: &mut PointList<'_>,
     limit: u32,
 ) -> Sequence
-    requires { Good (record { base = b; motion = Bytes lastword t }) × (from ≤ length points.old) }
-    ensures { leaves result points.new ≡ sequence limit (record { base = b; motion = Bytes lastword t }) points.old from }
+    requires { Good (record { base = b; motion = Bytes lastword t }) × (points.old.place ≤ length points.old.list.now) }
+    ensures same { points.new.list.ghost_name ≡ points.old.list.ghost_name }
+    ensures left { leaves result points.new.place points.new.list.now ≡ sequence limit (record { base = b; motion = Bytes lastword t }) points.old.list.now points.old.place }
 {
     let placesx = paper::places(beam::field_x(b));
     let placesy = paper::places(beam::field_y(b));
@@ -155,7 +185,6 @@ pub fn byte_moves(
     let upperx = b.x - lowx;
     let uppery = b.y - lowy;
     let mut bytes = t;
-    let mut place = from;
     for made in 0..limit {
         let m = moves::byte_move(lastword, bytes, distance);
         let Motion::Bytes(_, next) = m.motion else {
@@ -164,7 +193,6 @@ pub fn byte_moves(
                 upperx + lowx,
                 uppery + lowy,
                 Motion::Bytes(lastword, bytes),
-                place,
                 limit - made,
             );
         };
@@ -176,29 +204,19 @@ pub fn byte_moves(
                 upperx + lowx,
                 uppery + lowy,
                 Motion::Bytes(lastword, bytes),
-                place,
                 limit - made,
             );
         }
         let x = upperx + nextx.value;
         let y = uppery + nexty.value;
-        match beam::lit_at(b, lastword, x, y, m.asked, false) {
-            None => {}
-            Some(value) => {
-                if place < points.len() {
-                    points[place] = value;
-                    place += 1;
-                } else {
-                    return stays(
-                        b,
-                        upperx + lowx,
-                        uppery + lowy,
-                        Motion::Bytes(lastword, bytes),
-                        place,
-                        limit - made,
-                    );
-                }
-            }
+        if !points.put(beam::lit_at(b, lastword, x, y, m.asked, false)) {
+            return stays(
+                b,
+                upperx + lowx,
+                uppery + lowy,
+                Motion::Bytes(lastword, bytes),
+                limit - made,
+            );
         }
         lowx = nextx.value;
         lowy = nexty.value;
@@ -209,7 +227,6 @@ pub fn byte_moves(
         upperx + lowx,
         uppery + lowy,
         Motion::Bytes(lastword, bytes),
-        place,
         0,
     )
 }

@@ -3,7 +3,7 @@ ghost use Rattle.std.specs.Prelude.{◌≤◌, IfOk};
 ghost use Rattle.replay.specs.declared.TheConstants.{SIZE};
 
 use crate::tables::{LONGEST, Text};
-use crate::{Block, SIZE, blank};
+use crate::{Block, SIZE};
 use std::io;
 use std::io::Stdin;
 
@@ -37,7 +37,7 @@ impl Inlet {
     pub(crate) fn new(stdin: Stdin) -> Inlet {
         Inlet {
             stdin,
-            block: blank(0),
+            block: console::all(0),
             at: 0,
             end: 0,
             byte: Some(b'\n'),
@@ -95,6 +95,7 @@ impl Inlet {
 
     // Reads on to the line's newline, or to the end of the input.
     pub(crate) fn skip(&mut self) {
+        // No line has so many bytes; a `loop` would need a proof that the input ends.
         for _ in 0..u64::MAX {
             if self.byte == Some(b'\n') || self.byte.is_none() {
                 break;
@@ -114,6 +115,7 @@ impl Inlet {
     // Reads digits up to the byte that ends them. A number that 64 bits do not hold is the largest of them: it fits no field.
     fn digits(&mut self, first: u8) -> u64 {
         let mut number = u64::from(first);
+        // As in `skip`: a `loop` would need a proof that the input ends.
         for _ in 0..u64::MAX {
             self.next();
             let Some(digit) = self.digit() else { break };

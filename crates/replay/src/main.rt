@@ -21,11 +21,6 @@ const SIZE: usize = 4096;
 
 type Block = [u8; SIZE];
 
-// An array before it is used, made in a function of its own, so that what is proved of the caller says nothing of each element.
-fn blank<T: Copy, const N: usize>(value: T) -> [T; N] {
-    [value; N]
-}
-
 // What each case is read from, lends and is answered on.
 #[derive(Drop)]
 struct Replay {
@@ -59,6 +54,7 @@ impl Replay {
 
     // Answers every line, or those up to a write that failed.
     fn lines(&mut self) {
+        // No input has so many lines; a `loop` would need a proof that it ends.
         for line in 1..=u64::MAX {
             if self.input.next().is_none() || self.out.failed.is_some() {
                 break;

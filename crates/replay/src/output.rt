@@ -2,7 +2,7 @@
 ghost use Rattle.std.specs.Prelude.{◌<◌, ◌≤◌};
 ghost use Rattle.replay.specs.declared.TheConstants.{SIZE};
 
-use crate::{Block, SIZE, blank};
+use crate::{Block, SIZE};
 use std::io;
 use std::io::Stdout;
 
@@ -23,7 +23,7 @@ impl Outlet {
     pub(crate) fn new(stdout: Stdout) -> Outlet {
         Outlet {
             stdout,
-            block: blank(0),
+            block: console::all(0),
             place: 0,
             failed: None,
         }

@@ -2,7 +2,6 @@
 ghost use Rattle.std.specs.Prelude.{◌≤◌};
 ghost use Rattle.replay.specs.declared.tables.TheConstants.{LARGEST};
 
-use crate::blank;
 use crate::input::{Inlet, NotACase};
 use crate::output::Outlet;
 
@@ -34,8 +33,8 @@ pub(crate) struct Memory {
 impl Memory {
     fn new() -> Memory {
         Memory {
-            words: blank(0),
-            before: blank(0),
+            words: console::all(0),
+            before: console::all(0),
             length: 0,
         }
     }
@@ -88,8 +87,8 @@ impl Tables {
     pub(crate) fn new() -> Tables {
         Tables {
             memory: Memory::new(),
-            points: blank(0),
-            text: blank(0),
+            points: console::all(0),
+            text: console::all(0),
         }
     }
 }

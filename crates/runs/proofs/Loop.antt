@@ -29,6 +29,7 @@ use Rattle.runs.specs.declared.Ran.{Ran}
 use Rattle.endings.specs.Endings.{halted, rested, rest_ending}
 use Rattle.touches.proofs.Walk.{length-store}
 use Rattle.endings.proofs.Kept.{rested_good}
+use Rattle.move_sequence.proofs.Plain.{PutAt}
 use Rattle.runs.specs.Runs.{Run, ended, made, follow, onward, run, leaves, left}
 
 -- a run after points and beats that were made before it
@@ -176,9 +177,9 @@ module _ {l : Loan} {m₀ ps₀ : List ℕ} {k : ℕ} {r₀ : Registers} {m ps :
 
   pub beats : {w : Within l m₀ ps₀ k r₀ m ps r b n} {r' : Registers} {m' ps' : List ℕ} {n' : ℕ} {h : Option Ending} {stop : Option Stop} →
       h ≡ halted stop → (c : Act) → turn l (length ps₀ - n) r m ≡ Does c → r' ≡ c.registers → m' ≡ store c.stores m →
-      (n' ≡ n + length (points c.lit)) × (ps' ≡ sets ps n (points c.lit)) → stop ≡ c.stop → Beaten w r' m' ps' n' h
+      PutAt c.lit ps n ps' n' → stop ≡ c.stop → Beaten w r' m' ps' n' h
   beats halts c turned e stored put q =
-      record { act = c; turned = turned; registers = e; stored = stored; drawn = put.1; place = put.0; halt = halts ∙ ap halted q }
+      record { act = c; turned = turned; registers = e; stored = stored; drawn = put.list; place = put.next; halt = halts ∙ ap halted q }
 
   module _ {w : Within l m₀ ps₀ k r₀ m ps r b n} {r' : Registers} {m' ps' : List ℕ} {n' : ℕ} {h : Option Ending} (d : Beaten w r' m' ps' n' h) where
     pub goes : h ≡ None → Far l m₀ ps₀ k r₀ m' ps' r' (b + 1) n' (run (k - (b + 1)) l (length ps₀ - n') r' m')

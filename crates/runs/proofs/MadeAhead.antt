@@ -109,11 +109,11 @@ module _ (l : Loan) (m₀ ps₀ : List ℕ) (k : ℕ) (r₀ : Registers) where
   -- how far the run has come with them, in data state
   abbrev MovesCome : List ℕ → SequenceLeft → Type 0
   MovesCome m s =
-      Head m s.points s.sequence.registers (k - (s.sequence.left + 1)) s.sequence.place
+      Head m s.points s.sequence.registers (k - (s.sequence.left + 1)) s.place
       × (s.sequence.registers.base.datastate ≡ true)
 
   moves_stay : (j : ℕ) (m ps : List ℕ) (r : Registers) (b n : ℕ) → Head m ps r b n → r.base.datastate ≡ true → k - b ≡ suc j →
-      MovesCome m (record { sequence = record { registers = r; place = n; left = j }; points = ps })
+      MovesCome m (record { sequence = record { registers = r; left = j }; place = n; points = ps })
   moves_stay j m ps r b n h d e =
       let q : b ≡ k - (j + 1) = omega (arith, h.spent) in
       (subst (λ (t : ℕ). Head m ps r t n) q h, d)
@@ -226,7 +226,7 @@ module _ (l : Loan) (m₀ ps₀ : List ℕ) (k : ℕ) (r₀ : Registers) where
   -- BOTH
 
   pub record Made (b : ℕ) (a : AheadLeft) : Type 0 where
-    pub comes : Come a.memory a.points a.ahead.registers (k - a.ahead.left) a.ahead.place a.ahead.halt
+    pub comes : Come a.memory a.points a.ahead.registers (k - a.ahead.left) a.place a.ahead.halt
     pub drawing : a.ahead.halt ≡ None → 0 < a.ahead.left → Drawing a.ahead.registers
     pub left : a.ahead.left ≤ k - b
 
@@ -258,14 +258,14 @@ module _ (l : Loan) (m₀ ps₀ : List ℕ) (k : ℕ) (r₀ : Registers) where
       }
 
   -- what the code made ahead of a turn
-  pub made : {m ps : List ℕ} {b n : ℕ} {r : Registers} → Head m ps r b n → b < k → {a : Ahead} {m' ps' : List ℕ} →
-      leaves a m' ps' ≡ make_ahead (k - b) l r m ps n → Made b (leaves a m' ps')
+  pub made : {m ps : List ℕ} {b n : ℕ} {r : Registers} → Head m ps r b n → b < k → {a : Ahead} {m' : List ℕ} {n' : ℕ} {ps' : List ℕ} →
+      leaves a m' n' ps' ≡ make_ahead (k - b) l r m ps n → Made b (leaves a m' n' ps')
   made {m} {ps} {b} {n} {r} h lt e = subst (Made b) (sym e) (made_by m ps b n r.base r.motion h lt)
 
   -- by whether the run goes on from there
-  module _ {b : ℕ} {a : Ahead} {m' ps' : List ℕ} (h : Made b (leaves a m' ps')) where
-    pub goes_on : a.halt ≡ None → Head m' ps' a.registers (k - a.left) a.place
-    goes_on e = subst (Come m' ps' a.registers (k - a.left) a.place) e h.comes
+  module _ {b : ℕ} {a : Ahead} {m' : List ℕ} {n' : ℕ} {ps' : List ℕ} (h : Made b (leaves a m' n' ps')) where
+    pub goes_on : a.halt ≡ None → Head m' ps' a.registers (k - a.left) n'
+    goes_on e = subst (Come m' ps' a.registers (k - a.left) n') e h.comes
 
-    pub ends_at : {ending : Ending} → a.halt ≡ Some ending → Far l m₀ ps₀ k r₀ m' ps' a.registers (k - a.left) a.place (ended a.registers m' ending)
-    ends_at e = subst (Come m' ps' a.registers (k - a.left) a.place) e h.comes
+    pub ends_at : {ending : Ending} → a.halt ≡ Some ending → Far l m₀ ps₀ k r₀ m' ps' a.registers (k - a.left) n' (ended a.registers m' ending)
+    ends_at e = subst (Come m' ps' a.registers (k - a.left) n') e h.comes

@@ -2,15 +2,14 @@
 #![tactic(auto)]
 
 ghost use Rattle.std.specs.Prelude.{◌≡◌, ◌+◌, ◌≤◌, length};
-ghost use Rattle.std.proofs.lemmas.List.Edits.{sets};
 ghost use Rattle.registers.specs.Good.{Good};
-ghost use Rattle.beam.specs.DataWords.{points as points_of};
 ghost use Rattle.runs.specs.declared.Answer.TheVariants.{Ended};
 ghost use Rattle.runs.specs.Ahead.{make_ahead, leaves as ahead_leaves};
 ghost use Rattle.runs.specs.Runs.{run, left, leaves};
 
 use endings::Ending;
 use loan::Loan;
+use move_sequence::PointList;
 use registers::{Motion, Registers};
 use touches::{Lent, Turn};
 
@@ -37,25 +36,10 @@ fn ended(registers: Registers, ending: Ending, beats: u32, place: usize) -> Ran
     }
 }
 
-// Puts the point, if there is one, at a place, and answers the next place.
-fn put(lit: Option<u64>, points: &mut [u64], place: usize) -> usize
-    requires { place + length (points_of lit) ≤ length points.old }
-    ensures { (result ≡ place + length (points_of lit)) × (points.new ≡ sets points.old place (points_of lit)) }
-{
-    match lit {
-        None => place,
-        Some(value) => {
-            points[place] = value;
-            place + 1
-        }
-    }
-}
-
-// What is made ahead of a turn: the registers, the next place in the point list, what is left of the budget, and how the run ends, if it does.
+// What is made ahead of a turn: the registers, what is left of the budget, and how the run ends, if it does.
 #[derive(Clone, Copy)]
 struct Ahead {
     pub registers: Registers,
-    pub place: usize,
     pub left: u32,
     pub halt: Option<Ending>,
 }
@@ -66,12 +50,12 @@ fn make_ahead(
     r: Registers,
     l: Loan,
     memory: &mut [u16],
-    points: &mut [u64],
-    place: usize,
+    points: &mut PointList<'_>,
     limit: u32,
 ) -> Ahead
-    requires { Good r × (place ≤ length points.old) × (1 ≤ limit) }
-    ensures { ahead_leaves result memory.new points.new ≡ make_ahead limit l r memory.old points.old place }
+    requires { Good r × (points.old.place ≤ length points.old.list.now) × (1 ≤ limit) }
+    ensures same { points.new.list.ghost_name ≡ points.old.list.ghost_name }
+    ensures left { ahead_leaves result memory.new points.new.place points.new.list.now ≡ make_ahead limit l r memory.old points.old.list.now points.old.place }
 {
     let motion = r.motion;
     let b = r.base;
@@ -84,36 +68,91 @@ fn make_ahead(
             };
             Ahead {
                 registers,
-                place,
                 left: obeyed.left,
                 halt: obeyed.halt,
             }
         }
         Motion::Line(lastword, line) => {
-            let moves = move_sequence::line_moves(b, lastword, line, points, place, limit - 1);
+            let moves = move_sequence::line_moves(b, lastword, line, points, limit - 1);
             Ahead {
                 registers: moves.registers,
-                place: moves.place,
                 left: moves.left + 1,
                 halt: None,
             }
         }
         Motion::Bytes(lastword, bytes) => {
-            let moves = move_sequence::byte_moves(b, lastword, bytes, points, place, limit - 1);
+            let moves = move_sequence::byte_moves(b, lastword, bytes, points, limit - 1);
             Ahead {
                 registers: moves.registers,
-                place: moves.place,
                 left: moves.left + 1,
                 halt: None,
             }
         }
         Motion::Character(_) => Ahead {
             registers: r,
-            place,
             left: limit,
             halt: None,
         },
     }
+}
+
+// The run over a point list that nothing was put into yet.
+fn turns_of(
+    r: Registers,
+    l: Loan,
+    memory: &mut [u16],
+    points: &mut PointList<'_>,
+    budget: u32,
+) -> Ran
+    requires { Good r × (points.old.place ≡ 0) }
+    ensures same { points.new.list.ghost_name ≡ points.old.list.ghost_name }
+    ensures left { leaves result memory.new points.new.list.now ≡ left (run budget l (length points.old.list.now) r memory.old) points.old.list.now }
+{
+    let mut current = r;
+    let mut beats: u32 = 0;
+    // No `for` over the budget: how many beats a pass takes is known only behind it.
+    while beats < budget {
+        let before = make_ahead(current, l, memory, points, budget - beats);
+        beats = budget - before.left;
+        current = before.registers;
+        if let Some(ending) = before.halt {
+            return ended(current, ending, beats, points.place);
+        }
+        if budget <= beats {
+            return ended(current, Ending::BudgetSpent, beats, points.place);
+        }
+        let lent = Lent {
+            loan: l,
+            memory: &memory[..],
+        };
+        let turn = match turns::turn(current, lent, points.room()) {
+            Ok(turn) => turn,
+            Err(why) => return ended(current, Ending::Failed(why), beats, points.place),
+        };
+        let stop = match turn {
+            Turn::Rests(resting) => {
+                let registers = endings::rested(current, resting);
+                let rest = endings::rest_ending(resting);
+                return ended(registers, rest, beats, points.place);
+            }
+            Turn::Storeless(outcome) => {
+                points.put(outcome.lit);
+                current = outcome.registers;
+                outcome.stop
+            }
+            Turn::Does(act) => {
+                touches::store(act.stores, memory);
+                points.put(act.lit);
+                current = act.registers;
+                act.stop
+            }
+        };
+        beats += 1;
+        if let Some(end) = endings::halted(stop) {
+            return ended(current, end, beats, points.place);
+        }
+    }
+    ended(current, Ending::BudgetSpent, beats, points.place)
 }
 
 // The run of an accepted call on a running display. That the registers are in range is asked and no type's: a type would be taken apart and made again in every
@@ -122,51 +161,6 @@ pub fn run(r: Registers, l: Loan, memory: &mut [u16], points: &mut [u64], budget
     requires { Good r }
     ensures { leaves result memory.new points.new ≡ left (run budget l (length points.old) r memory.old) points.old }
 {
-    let mut current = r;
-    let mut beats: u32 = 0;
-    let mut place: usize = 0;
-    // No `for` over the budget: how many beats a pass takes is known only behind it.
-    while beats < budget {
-        let before = make_ahead(current, l, memory, points, place, budget - beats);
-        beats = budget - before.left;
-        place = before.place;
-        current = before.registers;
-        if let Some(ending) = before.halt {
-            return ended(current, ending, beats, place);
-        }
-        if budget <= beats {
-            return ended(current, Ending::BudgetSpent, beats, place);
-        }
-        let lent = Lent {
-            loan: l,
-            memory: &memory[..],
-        };
-        let turn = match turns::turn(current, lent, points.len() - place) {
-            Ok(turn) => turn,
-            Err(why) => return ended(current, Ending::Failed(why), beats, place),
-        };
-        let stop = match turn {
-            Turn::Rests(resting) => {
-                let registers = endings::rested(current, resting);
-                let rest = endings::rest_ending(resting);
-                return ended(registers, rest, beats, place);
-            }
-            Turn::Storeless(outcome) => {
-                place = put(outcome.lit, points, place);
-                current = outcome.registers;
-                outcome.stop
-            }
-            Turn::Does(act) => {
-                touches::store(act.stores, memory);
-                place = put(act.lit, points, place);
-                current = act.registers;
-                act.stop
-            }
-        };
-        beats += 1;
-        if let Some(end) = endings::halted(stop) {
-            return ended(current, end, beats, place);
-        }
-    }
-    ended(current, Ending::BudgetSpent, beats, place)
+    let mut list = PointList::new(points);
+    turns_of(r, l, memory, &mut list, budget)
 }

@@ -4,6 +4,9 @@
 ghost use Rattle.std.specs.Prelude.{◌≡◌};
 ghost use Rattle.source.specs.Source.{is_blank, at_rest, after_digit, after_comment, next, unread, address_with, word_with, spanned, reads, read};
 
+// A lesson may have this many bytes and not one more, with its comments.
+pub const LONGEST: usize = 262144;
+
 // Where the words of a lesson stand: the first one's address, the lowest address and the one behind the highest.
 #[derive(Clone, Copy, Debug, PartialEq, Eq)]
 pub struct Span {

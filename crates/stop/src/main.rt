@@ -14,9 +14,6 @@ use std::env::Env;
 use std::io;
 use std::io::Print;
 
-// A lesson may have this many bytes and not one more, with its comments.
-const LONGEST: usize = 262144;
-
 type Memory = [u16; 32768];
 
 // What the command line asks for: after how many beats the stop, and the word that is changed during it.
@@ -142,12 +139,12 @@ fn start(rt: HostRuntime) -> io::Result<()> {
     let Some(stop) = asked_for(&rt, &err)? else {
         return Ok(());
     };
-    let mut input = vec![in rt.alloc(); 0u8; LONGEST + 1]?;
+    let mut input = vec![in rt.alloc(); 0u8; source::LONGEST + 1]?;
     let mut memory = console::all(0);
     let count = console::read_full(&rt, &mut input)?;
     let read = source::read(&input[..count], &mut memory);
     match read.whole() {
-        Some(s) if count <= LONGEST => run(&rt, stop, s, &mut memory),
+        Some(s) if count <= source::LONGEST => run(&rt, stop, s, &mut memory),
         _ => console::write(
             &err,
             b"the lesson cannot be read: ./eveglome run tells what is wrong with it, and in which line.\n",

@@ -51,7 +51,8 @@ impl<'a> Text<'a> {
         }
     }
 
-    // A number below 100,000 in decimal.
+    // A number below 100,000 in decimal. Its figures and those of `put_octal` stand one by one, as in their definitions: a loop over weights would need a list of them
+    // in both.
     pub fn put_decimal(&mut self, value: u32)
         ensures { Adds self.old self.new (decimal value) }
     {

@@ -78,8 +78,8 @@ fn check(text: &[u8], low: u16, high: u16, from: Standing) -> Result<(), Refusal
     }
 }
 
-// Not one pass with `check`, which would be told by a parameter whether it may write.
-// Lays the words of lines into a range, up to the first line that is not in form.
+// Lays the words of lines into a range, up to the first line that is not in form. No one function with `check`: it would be told by a parameter whether it may
+// write.
 fn lay(text: &[u8], memory: &mut [u16], low: u16, high: u16, from: Standing)
     requires { high ≤ length memory.old }
     ensures { memory.new ≡ sets memory.old low (read_lines (high - low) low from text.now).words }

@@ -4,4 +4,4 @@ use Rattle.registers.proofs.InRange.{good}
 use Rattle.calls.proofs.call.Goals as goal
 
 pub enter-requires : goal.enter-requires
-enter-requires c = good _ (sym c.in_range.ensures ∙ c.if-in_range.true)
+enter-requires c = good _ (sym c.in_range.ensures ∙ c.if-not-in_range.false)

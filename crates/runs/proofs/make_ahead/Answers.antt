@@ -19,7 +19,7 @@ left : (n : ℕ) (r : Registers) (ps : List ℕ) (place : ℕ) {s : SequenceLeft
 left n r ps place e = rw e (moves_left n r ps place)
 
 pub overflow_add-result : goal.overflow_add-result
-overflow_add-result c = omega (arith, left _ _ _ _ c.line_moves-moves.ensures, c.requires.2, c.ranges.limit.fits)
+overflow_add-result c = omega (arith, left _ _ _ _ c.line_moves-moves.ensures.left, c.requires.2, c.ranges.limit.fits)
 
 pub overflow_add-result-in-Bytes : goal.overflow_add-result-in-Bytes
-overflow_add-result-in-Bytes c = omega (arith, left _ _ _ _ c.byte_moves-moves.ensures, c.requires.2, c.ranges.limit.fits)
+overflow_add-result-in-Bytes c = omega (arith, left _ _ _ _ c.byte_moves-moves.ensures.left, c.requires.2, c.ranges.limit.fits)

@@ -9,16 +9,35 @@ use std::io;
 use std::io::Print;
 use text::Text;
 
-// How many bytes the stretch has that a text begins with. A blank line ends it if something comes behind.
-fn stretch(text: &[u8]) -> usize
-    ensures { result ≤ length text.now }
+// A stretch: how many bytes it has, and how many lines behind its first.
+#[derive(Clone, Copy)]
+struct Stretch {
+    length: usize,
+    further: usize,
+}
+
+// The stretch that a text begins with. A blank line ends it if something comes behind. In one pass by places: two chains, for the end and for the lines, read a
+// listing that is not in form twice.
+fn first_stretch(text: &[u8]) -> Stretch
+    ensures { result.length ≤ length text.now }
 {
-    match text
-        .windows(3)
-        .position(|bytes| matches!(bytes, [b'\n', b'\n', _]))
-    {
-        Some(at) => at + 1,
-        None => text.len(),
+    let mut before = 0;
+    let mut further = 0;
+    for at in 0..text.len() {
+        if before == b'\n' {
+            if (text[at] == b'\n') & (at + 1 < text.len()) {
+                return Stretch {
+                    length: at,
+                    further,
+                };
+            }
+            further += 1;
+        }
+        before = text[at];
+    }
+    Stretch {
+        length: text.len(),
+        further,
     }
 }
 
@@ -28,10 +47,8 @@ fn ended(text: &[u8]) -> usize {
 }
 
 // Where the words of a stretch stand: no line is beyond 77777.
-fn range(stretch: &[u8]) -> Bounds {
-    let low = lines::start(stretch) % 32768;
-    // The lines behind its first.
-    let further = ended(&stretch[..stretch.len().saturating_sub(1)]);
+fn range(text: &[u8], further: usize) -> Bounds {
+    let low = lines::start(text) % 32768;
     let high = low + further.min((32767 - low) as usize) as u16 + 1;
     Bounds { low, high }
 }
@@ -75,15 +92,15 @@ fn read<F: FnMut(&Memory, Bounds) -> io::Result<()>>(
     let mut at = 0;
     // Each turn goes on by a stretch, whose length is found in the turn, so that no range fits.
     while at < input.len() {
-        let length = stretch(&input[at..]);
-        let text = &input[at..at + length];
-        let range = range(text);
+        let stretch = first_stretch(&input[at..]);
+        let text = &input[at..at + stretch.length];
+        let range = range(text, stretch.further);
         if let Some(line) = read_stretch(s, text, memory, range) {
             // Never so many; the remainders spare every caller to say so.
             return Ok(Some(ended(&input[..at]) % 2000000 + (line % 2000000) as usize));
         }
         each(memory, range)?;
-        at += length + 1;
+        at += stretch.length + 1;
     }
     Ok(None)
 }

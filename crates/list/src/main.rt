@@ -60,7 +60,8 @@ fn start_list(rt: &(impl Alloc + Env + Input + Print), err: &impl Print) -> io::
     }
 }
 
-// Reads a listing and makes a lesson of it.
+// Reads a listing and makes a lesson of it. Not put in line: the memory would lie on the stack beside that of a lesson that is listed.
+#[inline(never)]
 fn start_unlist(rt: &(impl Alloc + Env + Input + Print), err: &impl Print) -> io::Result<()> {
     let Some(start) = asked::starting(rt, err, 2, 3)? else {
         return Ok(());

@@ -15,6 +15,9 @@ use text::Text;
 // No line is longer: ten bytes, 55 names with a space each, a space and four digits, a newline.
 pub const LONGEST: usize = 346;
 
+// No larger word is listed: a word has 12 bits.
+const LARGEST: u16 = 4095;
+
 // Why a listing or its reading is refused.
 #[derive(Clone, Copy, Debug, PartialEq, Eq)]
 pub enum Refusal {
@@ -123,7 +126,7 @@ fn measure(memory: &[u16], low: u16, high: u16, from: Standing) -> Result<usize,
     let mut standing = from;
     for address in low..high {
         let word = memory[address as usize];
-        if word > 4095 {
+        if word > LARGEST {
             return Err(Refusal::Word);
         }
         total += line_length(address, word, standing.shown());

@@ -1,3 +1,4 @@
+pub mod TableLaws
 pub mod Table
 pub mod Going
 pub mod Lengths

@@ -20,6 +20,8 @@ pub struct PointList<'a> {
 }
 
 impl<'a> PointList<'a> {
+    ghost use Rattle.std.specs.Prelude.{true};
+    ghost use Rattle.beam.specs.DataWords.{points};
     ghost use Rattle.move_sequence.specs.Points.{Put};
 
     // A list before anything is put into it.
@@ -46,15 +48,26 @@ impl<'a> PointList<'a> {
     {
         match lit {
             None => true,
-            Some(value) => {
+            Some(_) => {
                 if self.place < self.list.len() {
-                    self.list[self.place] = value;
-                    self.place += 1;
+                    self.put_with_room(lit);
                     true
                 } else {
                     false
                 }
             }
+        }
+    }
+
+    // The same where there is room, with no test: a turn asks for the room of its point before the beat is made.
+    #[tactic(auto, unfolding(words::specs::Words::pick))]
+    pub fn put_with_room(&mut self, lit: Option<u64>)
+        requires { self.old.place + length (points lit) ≤ length self.old.list.now }
+        ensures { Put self.old self.new lit true }
+    {
+        if let Some(value) = lit {
+            self.list[self.place] = value;
+            self.place += 1;
         }
     }
 }

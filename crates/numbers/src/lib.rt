@@ -273,7 +273,8 @@ pub fn still_row(b: Base) -> [u16; ROW]
     row
 }
 
-// The row of registers.
+// The row of registers. Put in line, so that the row of fresh registers is known before the program runs.
+#[inline(always)]
 pub fn row_of(r: Registers) -> [u16; ROW]
     ensures { result ≡ row_of r }
 {

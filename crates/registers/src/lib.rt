@@ -111,6 +111,7 @@ pub struct Registers {
 }
 
 // The larger of two magnitudes: a line's number of moves.
+#[tactic(auto, using(crate::proofs::Magnitudes::greatest))]
 pub fn larger(one: u16, other: u16) -> u16
     ensures { result ≡ larger one other }
 {

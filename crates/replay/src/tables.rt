@@ -64,13 +64,14 @@ impl Memory {
         Ok(())
     }
 
-    // Writes the words that the call changed, of which none stands behind those that it was lent.
+    // Writes the words that the call changed, of those that it was lent. By their places: a chain over both lists takes half as many instructions again for a word.
     pub(crate) fn write_changes(&self, out: &mut Outlet) {
         out.text(b" M");
-        for (address, (new, old)) in self.words.iter().zip(&self.before).enumerate() {
-            if new != old {
+        for address in 0..self.length {
+            let new = self.words[address];
+            if new != self.before[address] {
                 out.number(address as u64);
-                out.number(*new);
+                out.number(new);
             }
         }
     }

@@ -136,13 +136,13 @@ fn turns_of(
                 return ended(registers, rest, beats, points.place);
             }
             Turn::Storeless(outcome) => {
-                points.put(outcome.lit);
+                points.put_with_room(outcome.lit);
                 current = outcome.registers;
                 outcome.stop
             }
             Turn::Does(act) => {
                 touches::store(act.stores, memory);
-                points.put(act.lit);
+                points.put_with_room(act.lit);
                 current = act.registers;
                 act.stop
             }

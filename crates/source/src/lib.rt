@@ -141,6 +141,8 @@ impl Source {
         (self.place == 9) & lines::is_octal(byte)
     }
 
+    // Where the line is behind a byte. Put in line, as what goes through all bytes of a lesson by it: called, each takes half as much time again.
+    #[inline(always)]
     #[tactic(auto, unfolding(crate::specs::Source::moved, words::specs::Words::pick))]
     fn moved(self, byte: u8) -> Source
         ensures { result ≡ moved self byte }
@@ -161,6 +163,7 @@ impl Source {
     }
 
     // One byte more, for who reads without a memory.
+    #[inline(always)]
     #[tactic(auto, unfolding(words::specs::Words::pick))]
     pub fn step(self, byte: u8) -> Source
         ensures { result ≡ step self byte }
@@ -174,6 +177,7 @@ impl Source {
     }
 
     // Lays the word that a byte makes whole into the memory.
+    #[inline(always)]
     #[tactic(auto, unfolding(words::specs::Words::pick))]
     fn lay(self, byte: u8, memory: &mut [u16; 32768])
         ensures { memory.new ≡ laid self byte memory.old }

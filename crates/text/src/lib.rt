@@ -2,6 +2,7 @@
 #![tactic(auto)]
 
 ghost use Rattle.std.specs.Prelude.{◌≡◌, [], ◌∷◌, ◌≤◌, take};
+ghost use Rattle.text.specs.Text.{filled, puts, octal_digit};
 
 // A lent list that is filled with text up to a place.
 #[derive(Drop)]
@@ -10,8 +11,41 @@ pub struct Text<'a> {
     pub place: usize,
 }
 
+// Puts a byte at a place of a list, and answers the place behind it. The two by themselves stay in the processor's registers: of a text, they would be read anew
+// from memory behind each byte that is stored.
+#[tactic(auto, unfolding(crate::specs::Text::puts, crate::specs::Text::put, words::specs::Words::pick))]
+fn put_at(byte: u8, list: &mut [u8], place: usize) -> usize
+    ensures { filled result list.new ≡ puts (byte ∷ []) (filled place list.old) }
+{
+    if place < list.len() {
+        list[place] = byte;
+        place + 1
+    } else {
+        place
+    }
+}
+
+// The same of bytes, one behind the other.
+fn put_all_at(bytes: &[u8], list: &mut [u8], place: usize) -> usize
+    ensures { filled result list.new ≡ puts bytes.now (filled place list.old) }
+{
+    let mut at = place;
+    for byte in bytes {
+        at = put_at(*byte, list, at);
+    }
+    at
+}
+
+// One octal digit of a number, by its weight.
+fn octal_digit(value: u16, weight: u16) -> u8
+    requires { 1 ≤ weight }
+    ensures { result ≡ octal_digit value weight }
+{
+    48 + (value / weight % 8) as u8
+}
+
 impl<'a> Text<'a> {
-    ghost use Rattle.text.specs.Text.{filled, figure, decimal, number, octal, octal_digit, octal_word, octal_address};
+    ghost use Rattle.text.specs.Text.{figure, decimal, number, octal, octal_word, octal_address};
     ghost use Rattle.text.specs.Adds.{Adds};
 
     // A list before anything is put into it.
@@ -22,22 +56,16 @@ impl<'a> Text<'a> {
         Text { list, place: 0 }
     }
 
-    #[tactic(auto, unfolding(crate::specs::Text::puts, crate::specs::Text::put, words::specs::Words::pick))]
     pub fn put(&mut self, byte: u8)
         ensures { Adds self.old self.new (byte ∷ []) }
     {
-        if self.place < self.list.len() {
-            self.list[self.place] = byte;
-            self.place += 1;
-        }
+        self.place = put_at(byte, self.list, self.place);
     }
 
     pub fn put_all(&mut self, bytes: &[u8])
         ensures { Adds self.old self.new bytes.now }
     {
-        for byte in bytes {
-            self.put(*byte);
-        }
+        self.place = put_all_at(bytes, self.list, self.place);
     }
 
     // One figure of a number in a base, by its weight: none where the number is smaller.
@@ -81,29 +109,24 @@ impl<'a> Text<'a> {
         self.put(48 + (value % 8) as u8);
     }
 
-    // One octal digit of a number, by its weight.
-    fn put_octal_digit(&mut self, value: u16, weight: u16)
-        requires { 1 ≤ weight }
-        ensures { Adds self.old self.new (octal_digit value weight ∷ []) }
-    {
-        self.put(48 + (value / weight % 8) as u8);
-    }
-
     // The last four octal digits of a number, all that a word has.
+    #[tactic(auto, unfolding(crate::specs::Text::octal_word))]
     pub fn put_word(&mut self, word: u16)
         ensures { Adds self.old self.new (octal_word word) }
     {
-        self.put_octal_digit(word, 512);
-        self.put_octal_digit(word, 64);
-        self.put_octal_digit(word, 8);
-        self.put_octal_digit(word, 1);
+        self.put_all(&[
+            octal_digit(word, 512),
+            octal_digit(word, 64),
+            octal_digit(word, 8),
+            octal_digit(word, 1),
+        ]);
     }
 
     // The last five octal digits of a number, all that an address has.
     pub fn put_address(&mut self, address: u16)
         ensures { Adds self.old self.new (octal_address address) }
     {
-        self.put_octal_digit(address, 4096);
+        self.put(octal_digit(address, 4096));
         self.put_word(address);
     }
 

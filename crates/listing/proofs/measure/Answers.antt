@@ -7,9 +7,9 @@ use Rattle.listing.proofs.measure.Goals as goal
 pub loop-address-init : goal.loop-address-init
 loop-address-init c = record { small = omega arith; all = also_nothing _ }
 
-pub returns-then-word-gt4095 : goal.returns-then-word-gt4095
-returns-then-word-gt4095 c =
-    measured_wide _ _ _ _ c.requires.1 c.loop-address-test.true refl refl c.if-word-gt4095.true _ ∙ c.loop-address.invariant.all
+pub returns-then-word-gt-LARGEST : goal.returns-then-word-gt-LARGEST
+returns-then-word-gt-LARGEST c =
+    measured_wide _ _ _ _ c.requires.1 c.loop-address-test.true refl refl c.if-word-gt-LARGEST.true _ ∙ c.loop-address.invariant.all
 
 pub overflow_add-total : goal.overflow_add-total
 overflow_add-total c = omega (arith, length-line _ _ _ c.line_length-total.ensures)
@@ -21,7 +21,7 @@ loop-address-preserved c =
       small = omega (arith, length-line _ _ _ c.line_length-total.ensures);
       all =
           rw (c.line_length-total.ensures, c.shown.ensures)
-          (measured_next _ _ _ _ c.requires.1 c.loop-address-test.true refl c.after-standing.ensures c.if-word-gt4095.false c.loop-address.total) ∙ v.all;
+          (measured_next _ _ _ _ c.requires.1 c.loop-address-test.true refl c.after-standing.ensures c.if-word-gt-LARGEST.false c.loop-address.total) ∙ v.all;
     }
 
 pub returns : goal.returns

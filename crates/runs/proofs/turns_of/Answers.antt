@@ -53,16 +53,20 @@ returns-in-Rests-clause-left c =
     let within : Within _ _ _ _ _ _ _ _ _ _ = record { far = going; some = c.if-budget-beats.false } in
     shows (rests within (turn_made within (rw c.room.ensures at c.turn.ensures) c.in-Ok.is c.in-Rests.is)) _ (c.ended-in-Rests.ensures ∙ rw (c.rest_ending-rest.ensures, c.rested-registers.ensures))
 
--- where a beat is made
-pub put-requires : goal.put-requires
-put-requires c =
+-- where a beat is made, the turn has asked for the room for its point
+pub put_with_room-requires : goal.put_with_room-requires
+put_with_room-requires c =
     let met = made _ _ _ _ _ c.loop-beats.invariant.far c.loop-beats-test.true c.make_ahead-before.ensures.left in
-    inside (goes_on _ _ _ _ _ met c.in_default.is)
+    let going = goes_on _ _ _ _ _ met c.in_default.is in
+    let within : Within _ _ _ _ _ _ _ _ _ _ = record { far = going; some = c.if-budget-beats.false } in
+    fits within {c = whole c.in-Storeless.outcome} (turn_made within (rw c.room.ensures at c.turn.ensures) c.in-Ok.is c.in-Storeless.is)
 
-pub put-requires-in-Does : goal.put-requires-in-Does
-put-requires-in-Does c =
+pub put_with_room-requires-in-Does : goal.put_with_room-requires-in-Does
+put_with_room-requires-in-Does c =
     let met = made _ _ _ _ _ c.loop-beats.invariant.far c.loop-beats-test.true c.make_ahead-before.ensures.left in
-    inside (goes_on _ _ _ _ _ met c.in_default.is)
+    let going = goes_on _ _ _ _ _ met c.in_default.is in
+    let within : Within _ _ _ _ _ _ _ _ _ _ = record { far = going; some = c.if-budget-beats.false } in
+    fits within {c = c.in-Does.act} (turn_made within (rw c.room.ensures at c.turn.ensures) c.in-Ok.is c.in-Does.is)
 
 pub loop-beats-smaller : goal.loop-beats-smaller
 loop-beats-smaller c =
@@ -77,18 +81,18 @@ loop-beats-preserved c =
     record {
       same =
           (elim c.match-turn-2.branch [
-            | in-Storeless w ↦ ap (λ (p : PointList). p.list.ghost_name) w.points-is ∙ w.put.ensures.same
-            | in-Does w ↦ ap (λ (p : PointList). p.list.ghost_name) w.points-is ∙ w.put-in-Does.ensures.same
+            | in-Storeless w ↦ ap (λ (p : PointList). p.list.ghost_name) w.points-is ∙ w.put_with_room.ensures.same
+            | in-Does w ↦ ap (λ (p : PointList). p.list.ghost_name) w.points-is ∙ w.put_with_room-in-Does.ensures.same
           ])
           ∙ c.make_ahead-before.ensures.same ∙ c.loop-beats.invariant.same;
       far = goes {w = within}
           (elim c.match-turn-2.branch [
             | in-Storeless w ↦
                 let told = turn_made within (rw c.room.ensures at c.turn.ensures) c.in-Ok.is w.in-Storeless.is in
-                beats c.halted.ensures (whole w.in-Storeless.outcome) told w.current-is w.memory-is (rw w.points-is (put_there w.put.ensures (fits within {c = whole w.in-Storeless.outcome} told))) w.stop-is
+                beats c.halted.ensures (whole w.in-Storeless.outcome) told w.current-is w.memory-is (rw w.points-is (put_there w.put_with_room.ensures (fits within {c = whole w.in-Storeless.outcome} told))) w.stop-is
             | in-Does w ↦
                 let told = turn_made within (rw c.room.ensures at c.turn.ensures) c.in-Ok.is w.in-Does.is in
-                beats c.halted.ensures w.in-Does.act told w.current-is (w.memory-is ∙ w.store.ensures) (rw w.points-is (put_there w.put-in-Does.ensures (fits within {c = w.in-Does.act} told))) w.stop-is
+                beats c.halted.ensures w.in-Does.act told w.current-is (w.memory-is ∙ w.store.ensures) (rw w.points-is (put_there w.put_with_room-in-Does.ensures (fits within {c = w.in-Does.act} told))) w.stop-is
           ])
           c.in_default-halted.is;
     }
@@ -102,10 +106,10 @@ returns-in-Some-halted-clause-left c =
     (elim c.match-turn-2.branch [
       | in-Storeless w ↦
           let told = turn_made within (rw c.room.ensures at c.turn.ensures) c.in-Ok.is w.in-Storeless.is in
-          beats c.halted.ensures (whole w.in-Storeless.outcome) told w.current-is w.memory-is (rw w.points-is (put_there w.put.ensures (fits within {c = whole w.in-Storeless.outcome} told))) w.stop-is
+          beats c.halted.ensures (whole w.in-Storeless.outcome) told w.current-is w.memory-is (rw w.points-is (put_there w.put_with_room.ensures (fits within {c = whole w.in-Storeless.outcome} told))) w.stop-is
       | in-Does w ↦
           let told = turn_made within (rw c.room.ensures at c.turn.ensures) c.in-Ok.is w.in-Does.is in
-          beats c.halted.ensures w.in-Does.act told w.current-is (w.memory-is ∙ w.store.ensures) (rw w.points-is (put_there w.put-in-Does.ensures (fits within {c = w.in-Does.act} told))) w.stop-is
+          beats c.halted.ensures w.in-Does.act told w.current-is (w.memory-is ∙ w.store.ensures) (rw w.points-is (put_there w.put_with_room-in-Does.ensures (fits within {c = w.in-Does.act} told))) w.stop-is
     ])
     c.in-Some-halted.is) _ c.ended-in-Some-halted.ensures
 

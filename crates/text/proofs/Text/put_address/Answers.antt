@@ -5,4 +5,4 @@ use Rattle.text.proofs.Text.put_address.Goals as goal
 
 pub returns : goal.returns
 unfolding octal_address
-returns c = adds_behind _ _ c.put_octal_digit.ensures c.put_word.ensures
+returns c = adds_behind _ _ (rw c.octal_digit.ensures at c.put.ensures) c.put_word.ensures

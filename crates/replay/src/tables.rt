@@ -10,6 +10,17 @@ const LARGEST: usize = 32769;
 
 type Words = [u16; LARGEST];
 
+// How many words are looked at together.
+const BLOCK: usize = 64;
+
+// Whether two lists differ in a place that both have.
+fn differ(new: &[u16], old: &[u16]) -> bool {
+    new.iter()
+        .zip(old)
+        .fold(0, |differing, (new, old)| differing | (new ^ old))
+        != 0
+}
+
 // The longest point list.
 pub(crate) const MOST: usize = 65536;
 
@@ -45,33 +56,47 @@ impl Memory {
         let word = input.number()?;
         if address < self.length {
             self.words[address] = word;
+            self.before[address] = word;
             Ok(())
         } else {
             Err(NotACase)
         }
     }
 
-    // Reads a memory of one word everywhere but for the pairs.
+    // Reads a memory of one word everywhere but for the pairs, into both lists.
     pub(crate) fn read(&mut self, input: &mut Inlet) -> Result<(), NotACase> {
         self.length = input.length(LARGEST)?;
         let word = input.number()?;
         let pairs: u32 = input.number()?;
         self.words.fill(word);
+        self.before.fill(word);
         for _ in 0..pairs {
             self.pair(input)?;
         }
-        self.before.copy_from_slice(&self.words);
         Ok(())
     }
 
-    // Writes the words that the call changed, of those that it was lent. By their places: a chain over both lists takes half as many instructions again for a word.
-    pub(crate) fn write_changes(&self, out: &mut Outlet) {
-        out.text(b" M");
-        for address in 0..self.length {
+    // Writes those words that the call changed which lie in a block: from a place on, as many as it has and the memory was lent.
+    fn write_block(&self, low: usize, out: &mut Outlet)
+        requires { low ≤ LARGEST }
+    {
+        for address in low..(low + BLOCK).min(self.length) {
             let new = self.words[address];
             if new != self.before[address] {
                 out.number(address as u64);
                 out.number(new);
+            }
+        }
+    }
+
+    // Writes the words that the call changed, of those that it was lent. Most blocks have none: that is seen of a block at once, in less time than of each word.
+    pub(crate) fn write_changes(&self, out: &mut Outlet) {
+        out.text(b" M");
+        for block in 0..=self.length / BLOCK {
+            let low = BLOCK * block;
+            let high = (low + BLOCK).min(self.length);
+            if differ(&self.words[low..high], &self.before[low..high]) {
+                self.write_block(low, out);
             }
         }
     }
